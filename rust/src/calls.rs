@@ -214,7 +214,7 @@ pub fn merge(schema: u32, first: &[u8], second: &[u8]) -> Result<Vec<u8>, Error>
 /// # Ok::<(), pendratsoa::Error>(())
 /// ```
 pub fn to_json(schema: u32, payload: &[u8]) -> Result<String, Error> {
-    text(ffi::json(schema, payload).map_err(|refusal| of_payload(refusal, schema, payload))?)
+    ffi::json_text(schema, payload).map_err(|refusal| of_payload(refusal, schema, payload))
 }
 
 /// Whether two commands of the type that has the code are the same for a replay.

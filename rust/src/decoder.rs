@@ -47,20 +47,47 @@ pub struct Decoder {
     max_message_size: u32,
     /// What came, and after it room.
     bytes: Vec<u8>,
-    /// The index of the first byte that is in no item yet.
-    begin: usize,
     /// The index of the first byte that did not come.
     end: usize,
-    /// The items that those begin with which are in no item yet, as far as they were looked for.
-    found: Found,
-    /// The number of bytes that are in the items that were taken.
-    taken: u64,
-    /// The error of a message that is longer than the limit, which ended the stream.
-    ended: Option<Error>,
+    cursor: Cursor,
     /// By which payloads are read, if they are at other field numbers.
     numbering: Option<Numbering>,
     /// What it made of the payloads of the last loop.
     kept: Kept,
+}
+
+/// How far the bytes of a decoder are in the items that were taken.
+#[derive(Clone, Debug)]
+struct Cursor {
+    /// The index of the first byte that is in no item yet.
+    begin: usize,
+    /// The number of bytes of the stream before those that the decoder holds.
+    dropped: u64,
+    /// The items that those begin with which are in no item yet, as far as they were looked for.
+    found: Found,
+    /// The error of a message that is longer than the limit, which ended the stream.
+    ended: Option<Error>,
+}
+
+impl Cursor {
+    /// The offset in the stream of the first byte that is in no item yet.
+    #[inline]
+    fn offset(&self) -> u64 {
+        self.dropped + self.begin as u64
+    }
+
+    /// Takes the next of the items that were found, which has this size.
+    #[inline]
+    fn take(&mut self, size: usize) {
+        self.begin += size;
+        self.found.take();
+    }
+
+    /// Says that the bytes in the items that were taken are held no longer.
+    fn drop_taken(&mut self) {
+        self.dropped += self.begin as u64;
+        self.begin = 0;
+    }
 }
 
 impl Decoder {
@@ -102,12 +129,14 @@ impl Decoder {
         Decoder {
             version,
             max_message_size,
-            taken: 0,
-            ended: None,
             bytes: Vec::new(),
-            begin: 0,
             end: 0,
-            found: Found::new(),
+            cursor: Cursor {
+                begin: 0,
+                dropped: 0,
+                found: Found::new(),
+                ended: None,
+            },
             numbering: None,
             kept: Kept::default(),
         }
@@ -153,7 +182,7 @@ impl Decoder {
     /// The number of bytes of the stream that are in the items that were taken: the offset of the next one.
     #[must_use]
     pub fn offset(&self) -> u64 {
-        self.taken
+        self.cursor.offset()
     }
 
     /// Appends bytes of the stream to those received. [`Error::OutOfMemory`] leaves these unchanged.
@@ -297,24 +326,25 @@ impl Decoder {
     /// # Ok::<(), Error>(())
     /// ```
     pub fn finish(&self) -> Result<(), Error> {
-        match &self.ended {
+        match &self.cursor.ended {
             Some(error) => Err(error.clone()),
             None => match self.trailing() {
                 [] => Ok(()),
-                rest => Err(Error::Incomplete(Incomplete::of(rest, self.taken))),
+                rest => Err(Error::Incomplete(Incomplete::of(rest, self.offset()))),
             },
         }
     }
 
     /// The error that ended the stream, if one did; what came is dropped then.
     fn check(&mut self) -> Result<(), Error> {
-        match &self.ended {
+        match &self.cursor.ended {
             None => Ok(()),
             Some(error) => {
+                let error = error.clone();
                 self.bytes = Vec::new();
-                self.begin = 0;
                 self.end = 0;
-                Err(error.clone())
+                self.cursor.drop_taken();
+                Err(error)
             }
         }
     }
@@ -323,10 +353,11 @@ impl Decoder {
     fn make_room(&mut self, count: usize) -> Result<(), Error> {
         self.bytes.truncate(self.end);
         // used bytes are dropped once they are the greater part, so that each byte is moved once on average
-        if self.begin > self.end / 2 {
-            self.bytes.drain(..self.begin);
-            self.end -= self.begin;
-            self.begin = 0;
+        let begin = self.cursor.begin;
+        if begin > self.end / 2 {
+            self.bytes.drain(..begin);
+            self.end -= begin;
+            self.cursor.drop_taken();
         }
         self.bytes
             .try_reserve(count)
@@ -342,11 +373,8 @@ impl Decoder {
         Items {
             version: self.version,
             max_message_size: self.max_message_size,
-            taken: &mut self.taken,
-            ended: &mut self.ended,
             bytes: &self.bytes[..self.end],
-            begin: &mut self.begin,
-            found: &mut self.found,
+            cursor: &mut self.cursor,
             numbering: self.numbering.as_ref(),
             place: Some(self.kept.emptied()),
             has_failed: false,
@@ -369,13 +397,12 @@ impl Decoder {
     /// # Ok::<(), pendratsoa::Error>(())
     /// ```
     pub fn next_owned(&mut self) -> Option<Result<OwnedItem, Error>> {
-        let (begin, taken) = (self.begin, self.taken);
+        let begin = self.cursor.begin;
         let owned = self.items().next()?.and_then(Item::into_owned);
         // a numbering may have left it where it is
-        if matches!(owned, Err(Error::OutOfMemory)) && self.taken != taken {
-            self.begin = begin;
-            self.taken = taken;
-            self.found.put_back();
+        if matches!(owned, Err(Error::OutOfMemory)) && self.cursor.begin != begin {
+            self.cursor.begin = begin;
+            self.cursor.found.put_back();
         }
         Some(owned)
     }
@@ -405,8 +432,8 @@ impl Decoder {
     /// ```
     #[must_use]
     pub fn trailing(&self) -> &[u8] {
-        match self.ended {
-            None => &self.bytes[self.begin..self.end],
+        match self.cursor.ended {
+            None => &self.bytes[self.cursor.begin..self.end],
             Some(_) => &[],
         }
     }
@@ -418,11 +445,8 @@ impl Decoder {
 pub struct Items<'a> {
     version: Version,
     max_message_size: u32,
-    taken: &'a mut u64,
-    ended: &'a mut Option<Error>,
     bytes: &'a [u8],
-    begin: &'a mut usize,
-    found: &'a mut Found,
+    cursor: &'a mut Cursor,
     numbering: Option<&'a Numbering>,
     /// Where the next payload that the numbering makes is kept.
     place: Option<&'a mut Vec<Payload>>,
@@ -431,71 +455,76 @@ pub struct Items<'a> {
 
 impl<'a> Items<'a> {
     /// Looks for items in the bytes that are in none.
-    #[cold]
     fn look(&mut self) -> Result<(), Error> {
-        if let Some(error) = &*self.ended {
+        let cursor = &mut *self.cursor;
+        if let Some(error) = &cursor.ended {
             return Err(error.clone());
         }
-        let (bytes, limit) = (&self.bytes[*self.begin..], self.max_message_size);
-        match self.found.look(self.version.into(), limit, bytes) {
+        let (bytes, limit) = (&self.bytes[cursor.begin..], self.max_message_size);
+        match cursor.found.look(self.version.into(), limit, bytes) {
             Ok(()) => Ok(()),
             Err(Refusal::TooLong) => {
-                let error = Error::MessageTooLong(MessageTooLong::of(bytes, limit, *self.taken));
-                *self.ended = Some(error.clone());
+                let error =
+                    Error::MessageTooLong(MessageTooLong::of(bytes, limit, cursor.offset()));
+                cursor.ended = Some(error.clone());
                 Err(error)
             }
             Err(refusal) => Err(Error::of(refusal, |_| Argument::Stream(bytes.len()))),
         }
     }
 
-    /// Takes the item of this size.
+    /// Takes the next of the items that were found, if it is a message, and no numbering reads it. After an error there
+    /// is none: that ended the iteration at what is no such message.
     #[inline]
-    fn take(&mut self, size: usize) {
-        *self.taken += size as u64;
-        *self.begin += size;
-        self.found.take();
-    }
-
-    /// Ends the iteration.
-    #[cold]
-    fn fail(&mut self, error: Error) -> Result<Item<'a>, Error> {
-        self.has_failed = true;
-        Err(error)
-    }
-
-    /// The next of the items that were found, whatever it is, and whatever reads it.
-    #[cold]
-    fn next_of_any_kind(&mut self) -> Option<Result<Item<'a>, Error>> {
-        let numbers = self.found.first()?;
-        let (bytes, place) = (&self.bytes[*self.begin..], Place::at(*self.taken));
-        Some(
-            match (item_of(self.version, bytes, numbers, place), self.numbering) {
-                (Ok((item, size)), None) => {
-                    self.take(size);
-                    Ok(item)
-                }
-                (Ok((item, size)), Some(numbering)) => self.take_read(numbering, item, size),
-                (Err(error), _) => self.fail(error),
-            },
-        )
-    }
-
-    /// Takes an item of a size, as it is read by a numbering; one that cannot be read is taken too.
-    #[cold]
-    fn take_read(
-        &mut self,
-        numbering: &Numbering,
-        item: Item<'a>,
-        size: usize,
-    ) -> Result<Item<'a>, Error> {
-        let read = match item {
-            Item::Message(message) => self.read(numbering, message).map(Item::Message),
-            item => Ok(item),
-        };
-        if !matches!(read, Err(Error::OutOfMemory)) {
-            self.take(size);
+    fn next_message(&mut self) -> Option<Message<'a>> {
+        if self.numbering.is_some() {
+            return None;
         }
-        read.or_else(|error| self.fail(error))
+        let numbers = self.cursor.found.first()?;
+        let bytes = self.bytes.get(self.cursor.begin..)?;
+        let place = Place::at(self.cursor.offset());
+        let (message, size) = message_of(self.version, bytes, numbers, place)?;
+        self.cursor.take(size);
+        Some(message)
+    }
+
+    /// Takes the next item, whatever it is, and whatever reads it. An error ends the iteration.
+    #[cold]
+    fn next_of_any_kind(&mut self) -> Result<Option<Item<'a>>, Error> {
+        if self.has_failed {
+            return Ok(None);
+        }
+        let item = self.next_found();
+        self.has_failed = item.is_err();
+        item
+    }
+
+    /// Takes the next of the items that were found. If there is none, it looks for more.
+    fn next_found(&mut self) -> Result<Option<Item<'a>>, Error> {
+        if self.cursor.found.first().is_none() {
+            self.look()?;
+            if let Some(message) = self.next_message() {
+                return Ok(Some(Item::Message(message)));
+            }
+        }
+        let cursor = &*self.cursor;
+        let numbers = match cursor.found.first() {
+            Some(numbers) => numbers,
+            None => return Ok(None),
+        };
+        let (bytes, place) = (&self.bytes[cursor.begin..], Place::at(cursor.offset()));
+        let (item, size) = item_of(self.version, bytes, numbers, place)?;
+        let read = match (item, self.numbering) {
+            (Item::Message(message), Some(numbering)) => {
+                self.read(numbering, message).map(Item::Message)
+            }
+            (item, _) => Ok(item),
+        };
+        // one that cannot be read is taken too
+        if !matches!(read, Err(Error::OutOfMemory)) {
+            self.cursor.take(size);
+        }
+        read.map(Some)
     }
 
     /// A message as it is read by a numbering.
@@ -516,28 +545,13 @@ impl<'a> Items<'a> {
 impl<'a> Iterator for Items<'a> {
     type Item = Result<Item<'a>, Error>;
 
+    // A loop has it inline. The other function returns another type: if it wrote the item that this one returns, the
+    // compiler would have that in memory, and not in registers.
     #[inline]
     fn next(&mut self) -> Option<Result<Item<'a>, Error>> {
-        if self.has_failed {
-            return None;
-        }
-        if self.found.first().is_none() {
-            if let Err(error) = self.look() {
-                return Some(self.fail(error));
-            }
-        }
-        let numbers = self.found.first()?;
-        let (bytes, place) = (&self.bytes[*self.begin..], Place::at(*self.taken));
-        // most are messages: each is made where it is returned, and not moved
-        match (
-            message_of(self.version, bytes, numbers, place),
-            self.numbering,
-        ) {
-            (Some((message, size)), None) => {
-                self.take(size);
-                Some(Ok(Item::Message(message)))
-            }
-            _ => self.next_of_any_kind(),
+        match self.next_message() {
+            Some(message) => Some(Ok(Item::Message(message))),
+            None => self.next_of_any_kind().transpose(),
         }
     }
 }
@@ -586,3 +600,32 @@ impl<R> ReadItems<'_, R> {
 }
 
 impl<R: Read> FusedIterator for ReadItems<'_, R> {}
+
+#[cfg(test)]
+mod tests {
+    use super::*;
+
+    #[test]
+    fn numbers_of_a_later_library_end_the_iteration() {
+        let whole = [0, 0x0300_0000_0000, 3, 0, 8, 8];
+        for (numbers, text) in [
+            ([3, 0, 3, 0, 8, 8], "the kind of item 3"),
+            ([0, 0, 0x1_0000, 0, 8, 8], "the code 65536"),
+            ([0, 0, 3, 0, 17, 8], "the size 17"),
+            ([0, 0, 3, 0, 8, 9], "the size 8"),
+            ([1, 0, 3, 0, u64::MAX, 8], "the size 18446744073709551615"),
+        ] {
+            let mut decoder = Decoder::new(Version::V8);
+            decoder.feed(&[0; 24]).unwrap();
+            decoder.cursor.found = Found::of(&[whole, numbers, whole]);
+            let error = Err(Error::Unexpected(text.to_owned()));
+            let mut items = decoder.items();
+            assert!(matches!(items.next(), Some(Ok(Item::Message(_)))));
+            assert_eq!(items.next(), Some(error.clone()));
+            assert_eq!((items.next(), items.next()), (None, None));
+            // it is not taken
+            assert_eq!(decoder.offset(), 8);
+            assert_eq!(decoder.items().next(), Some(error));
+        }
+    }
+}

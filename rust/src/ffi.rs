@@ -60,6 +60,13 @@ fn refused(returned: i64) -> Refusal {
     Refusal::from(returned)
 }
 
+/// The JSON of a payload.
+pub(crate) fn json_text(schema: u32, payload: &[u8]) -> Result<String> {
+    let text = crate::ffi::json(schema, payload)?;
+    // SAFETY: the JSON that the library writes is UTF-8, as is proved of it
+    Ok(unsafe { String::from_utf8_unchecked(text) })
+}
+
 /// The bytes that a call writes. It is made once if they fit into the room that is guessed, and otherwise again with
 /// as much as it returned.
 ///

@@ -2,7 +2,6 @@
 
 use std::error;
 use std::fmt;
-use std::mem;
 use std::sync::Arc;
 
 use crate::calls::{frame, is_well_formed, of_payload, schema, text};
@@ -314,11 +313,11 @@ pub(crate) struct Payload {
 
 impl Kept {
     /// The place of the first payload, after the others are dropped.
+    #[inline]
     pub(crate) fn emptied(&mut self) -> &mut Vec<Payload> {
-        let mut payloads = mem::take(&mut self.0);
         // one by one, since those within a payload would be dropped within a call
-        while let Some(payload) = payloads.pop() {
-            payloads = payload.next;
+        while let Some(payload) = self.0.pop() {
+            self.0 = payload.next;
         }
         &mut self.0
     }

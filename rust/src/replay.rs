@@ -2,6 +2,7 @@
 
 use std::error;
 use std::fmt;
+use std::mem;
 
 use crate::calls::{of_commands, text};
 use crate::error::{narrowed, Argument, Error};
@@ -167,24 +168,42 @@ impl<'a> Replay<'a> {
     /// call can be repeated.
     pub fn check(&mut self, item: &Item<'_>) -> Result<Option<Mismatch>, Error> {
         let (code, payload) = parts(item);
-        // the replay goes on by its copy once all of the mismatch is there
-        let (mut numbers, mut mismatch) = (self.numbers, [0; 6]);
-        let said = ffi::replay_check(code, self.recorded, payload, &mut numbers, &mut mismatch)
-            .map_err(|refusal| of_item(refusal, payload))?;
-        let found = if said == 0 {
-            None
-        } else {
-            Some(self.mismatch(mismatch, code, payload)?)
-        };
+        let (before, mut mismatch) = (self.numbers, [0; 6]);
+        // an error of it changes nothing
+        let said = ffi::replay_check(
+            code,
+            self.recorded,
+            payload,
+            &mut self.numbers,
+            &mut mismatch,
+        )
+        .map_err(|refusal| of_item(refusal, payload))?;
         if let Item::Message(message) = item {
             // the library counts the bytes of the payload, which are others than those received if a numbering read it
-            if numbers[4] != self.numbers[4] {
-                numbers[4] = numbers[4]
+            if self.numbers[4] != before[4] {
+                self.numbers[4] = self.numbers[4]
                     .wrapping_add(message.received().len() as u64)
                     .wrapping_sub(payload.len() as u64);
             }
         }
-        self.numbers = numbers;
+        if said == 0 {
+            return Ok(None);
+        }
+        self.left(before, mismatch, code, payload).map(Some)
+    }
+
+    /// The mismatch of these numbers, which was said of an item. The replay goes on after it once all of it is there.
+    #[cold]
+    fn left(
+        &mut self,
+        before: [u64; 6],
+        mismatch: [u64; 6],
+        code: u16,
+        payload: &[u8],
+    ) -> Result<Mismatch, Error> {
+        let after = mem::replace(&mut self.numbers, before);
+        let found = self.mismatch(mismatch, code, payload)?;
+        self.numbers = after;
         Ok(found)
     }
 

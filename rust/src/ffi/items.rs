@@ -25,11 +25,25 @@ pub(crate) struct Found {
 
 impl Found {
     pub(crate) fn new() -> Found {
+        // by `[MaybeUninit::uninit(); ITEMS]` the compiler clears it
+        let room = MaybeUninit::<[MaybeUninit<ItemNumbers>; ITEMS]>::uninit();
         Found {
-            room: [MaybeUninit::uninit(); ITEMS],
+            // SAFETY: nothing in it needs to be set
+            room: unsafe { room.assume_init() },
             count: 0,
             taken: 0,
         }
+    }
+
+    /// These, as if the library had written them.
+    #[cfg(test)]
+    pub(crate) fn of(numbers: &[ItemNumbers]) -> Found {
+        let mut found = Found::new();
+        for (room, numbers) in found.room.iter_mut().zip(numbers) {
+            room.write(*numbers);
+            found.count += 1;
+        }
+        found
     }
 
     /// Looks for the items that bytes begin with, after all that were found were taken. There are none if no whole one
@@ -45,9 +59,11 @@ impl Found {
     /// The next one that is not taken.
     #[inline]
     pub(crate) fn first(&self) -> Option<&ItemNumbers> {
-        let numbers = self.room[..self.count].get(self.taken)?;
-        // SAFETY: the library has written as many as `count`
-        Some(unsafe { numbers.assume_init_ref() })
+        if self.taken >= self.count {
+            return None;
+        }
+        // SAFETY: the library has written as many as `count`, which are at most the room
+        Some(unsafe { self.room.get_unchecked(self.taken).assume_init_ref() })
     }
 
     /// Takes the next one.
