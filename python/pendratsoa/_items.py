@@ -7,7 +7,8 @@ import dataclasses
 import functools
 import json
 from dataclasses import dataclass, field
-from typing import TYPE_CHECKING, Any, Callable, ClassVar, Mapping, Optional, Protocol, Type, TypeVar, Union, cast
+from typing import TYPE_CHECKING, Any, Callable, ClassVar, Iterator, Mapping, NoReturn, Optional, Protocol, Type
+from typing import TypeVar, Union, cast
 
 from . import _calls
 from ._calls import Notification
@@ -341,6 +342,18 @@ class Skipped(_Item):
 # an item of a stream: a `Message`, an `UnknownCode` or a message that is `Skipped`
 Item = Union[Message, UnknownCode, Skipped]
 I = TypeVar("I", Message, UnknownCode, Skipped)
+
+
+def items_of(take: Callable[[], Union[Item, int, None]], refuse: Callable[[int], NoReturn]) -> Iterator[Item]:
+    """Iterates over the items that are taken, up to the first of which not all came. A number in place of an item is
+    given to a function, which raises its error."""
+    while True:
+        item = take()
+        if item is None:
+            return
+        if item.__class__ is int:
+            refuse(cast(int, item))
+        yield cast(Item, item)
 
 
 def came(item: I, offset: int) -> I:

@@ -4,11 +4,11 @@ from __future__ import annotations
 
 import ctypes
 import threading
-from typing import List, Optional, Tuple, Union
+from typing import Callable, Iterator, List, NoReturn, Optional, Tuple, Union
 
 from ._declared import ITEM_MESSAGE, ITEM_NUMBERS, ITEM_SKIPPED, ITEM_UNKNOWN_CODE
 from ._errors import ERRORS, TooLong
-from ._items import Item, Message, Skipped, UnknownCode, came, message_that_came
+from ._items import Item, Message, Skipped, UnknownCode, came, items_of, message_that_came
 from ._library import library
 
 # how many items are looked for at once, since a call costs more than finding one
@@ -73,6 +73,10 @@ class Pending:
                 return self._take()
             finally:
                 self._within = False
+
+    def items(self, refuse: Callable[[int], NoReturn]) -> Iterator[Item]:
+        """Iterates over the items, as `items_of` does."""
+        return items_of(self.take, refuse)
 
     def rest(self) -> int:
         """The number of pending bytes: those received that no item has yet."""

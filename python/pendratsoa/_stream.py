@@ -6,11 +6,11 @@ import contextlib
 import inspect
 import os
 from typing import TYPE_CHECKING, Any, AsyncIterator, Awaitable, Callable, Iterator, List, NoReturn, Optional, Protocol
-from typing import Union, cast
+from typing import Union
 
 from ._errors import Incomplete, MessageTooLong, TooLong
 from ._fast import pending_of
-from ._items import Item, Message, name_of, read_as, renumbered, type_of
+from ._items import Item, Message, items_of, name_of, read_as, renumbered, type_of
 from ._kinds import BytesLike
 from ._named import named
 from ._request import Request, byte_count
@@ -126,14 +126,9 @@ class Stream:
         self._finish("finish")
 
     def __iter__(self) -> Iterator[Item]:
-        take = self._pending.take if self._tables is None else self._take_at
-        while True:
-            item = take()
-            if item is None:
-                return
-            if item.__class__ is int:
-                self._refuse(cast(int, item))
-            yield cast(Item, item)
+        if self._tables is None:
+            return self._pending.items(self._refuse)
+        return items_of(self._take_at, self._refuse)
 
     def __repr__(self) -> str:
         return f"<Stream of version {self._version}, {self.rest} bytes in no item yet>"

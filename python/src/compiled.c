@@ -171,6 +171,7 @@ static int make_names(struct native *self)
     for (int at = 0; at < ATTRIBUTES; at += 1) {
         self->attributes[at] = PyUnicode_InternFromString(names[at]);
     }
+    self->nothing = PyTuple_New(0);
     return PyErr_Occurred() ? -1 : 0;
 }
 
@@ -220,6 +221,10 @@ static void native_dealloc(struct native *self)
     for (int at = 0; at < ATTRIBUTES; at += 1) {
         Py_XDECREF(self->attributes[at]);
     }
+    for (int at = 0; at < CODES; at += 1) {
+        Py_XDECREF(self->codes[at].number);
+    }
+    Py_XDECREF(self->nothing);
     Py_XDECREF(self->dict_name);
     Py_XDECREF(self->value_name);
     Py_XDECREF(self->schemas);
@@ -375,6 +380,7 @@ static int executed(PyObject *module)
     failed = failed != 0 ? failed : put_type(native, "_RecordCodec", &record_codec_spec);
     failed = failed != 0 ? failed : put_type(native, "_NamedCall", &named_call_spec);
     failed = failed != 0 ? failed : put_type(native, "_Pending", &pending_spec);
+    failed = failed != 0 ? failed : put_type(native, "_Items", &items_spec);
     Py_XDECREF(native);
     return failed;
 }

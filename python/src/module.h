@@ -57,6 +57,15 @@ enum attribute { VERSION_NAME, CODE_NAME, PAYLOAD_NAME, ACK_NAME, WORD_NAME, OFF
 /* The classes of items, at the numbers of their kinds. */
 #define ITEM_CLASSES 3
 
+/* How many places there are for the numbers of codes: those of all commands and completions have different ones. */
+#define CODES 64
+
+/* A code, and the number that was made for it, or NULL. */
+struct code {
+    uint64_t code;
+    PyObject *number;
+};
+
 /* How many bytes a header has. */
 #define HEADER_BYTES 8
 
@@ -69,6 +78,8 @@ struct native {
     PyObject *value_name;
     PyObject *attributes[ATTRIBUTES];
     PyObject *items[ITEM_CLASSES];
+    struct code codes[CODES];
+    PyObject *nothing; /* the empty tuple */
     PyObject *schemas;
     PyObject *checked;
     PyObject *refused;
@@ -76,10 +87,12 @@ struct native {
     Py_ssize_t count;
 };
 
-/* The types of what a `Native` makes: a call by its name, the functions of a record, and what came of a stream. */
+/* The types of what a `Native` makes: a call by its name, the functions of a record, what came of a stream, and a loop
+ * over that. */
 extern PyType_Spec named_call_spec;
 extern PyType_Spec record_codec_spec;
 extern PyType_Spec pending_spec;
+extern PyType_Spec items_spec;
 
 /* An instance of the type that is this attribute of a `Native`; NULL with an exception. */
 void *made_of(struct native *native, const char *type);
@@ -110,6 +123,7 @@ struct named_call {
 struct pending {
     PyObject_HEAD
     struct native *native;
+    PyObject *number;    /* of the version */
     uint32_t version;
     uint32_t limit;
     bool is_limited;
@@ -122,7 +136,13 @@ struct pending {
     uint64_t changes;    /* counts them, since another thread may run where memory is collected */
     int64_t ended;       /* the error that ended it, or 0 */
     uint8_t head[HEADER_BYTES]; /* then the header of that message */
-    PyObject *message;   /* the attributes of a message, of which most are put anew */
+};
+
+/* A loop over what came: `refuse` raises the error of a number that is taken in place of an item. */
+struct items {
+    PyObject_HEAD
+    struct pending *pending; /* or NULL, once it has ended */
+    PyObject *refuse;
 };
 
 /* Makes a `pending` ready; -1 with an exception. */

@@ -102,38 +102,74 @@ static int64_t found(struct pending *self, struct journal_item *item)
     return missing;
 }
 
-/* Puts a number that is made here into attributes; -1 with an exception. */
-static int put(const struct native *native, PyObject *values, enum attribute attribute, PyObject *value)
+/* The attributes of the items of each kind, in the order of their fields, so that all of a class share their keys. */
+static const struct fields {
+    enum attribute attributes[ATTRIBUTES];
+    size_t count;
+} FIELDS[ITEM_CLASSES] = {
+    [JOURNAL_ITEM_MESSAGE] = {{VERSION_NAME, CODE_NAME, PAYLOAD_NAME, ACK_NAME, WORD_NAME, OFFSET_NAME}, 6},
+    [JOURNAL_ITEM_UNKNOWN_CODE] = {{VERSION_NAME, CODE_NAME, WORD_NAME, OFFSET_NAME}, 4},
+    [JOURNAL_ITEM_SKIPPED] = {{VERSION_NAME, CODE_NAME, WORD_NAME, PAYLOAD_NAME, OFFSET_NAME}, 5},
+};
+
+/* The number of a code, which is kept for further items of it. */
+static PyObject *code_of(struct native *native, uint64_t code)
 {
-    int failed = value == NULL ? -1 : PyDict_SetItem(values, native->attributes[attribute], value);
-    Py_XDECREF(value);
-    return failed;
+    struct code *kept = &native->codes[(code ^ code >> 5) % CODES];
+    if (kept->number == NULL || kept->code != code) {
+        PyObject *number = PyLong_FromUnsignedLongLong(code);
+        if (number == NULL) {
+            return NULL;
+        }
+        PyObject *before = kept->number;
+        *kept = (struct code){.code = code, .number = number};
+        Py_XDECREF(before);
+    }
+    Py_INCREF(kept->number);
+    return kept->number;
 }
 
-/* The item of these numbers, which begins with these bytes. */
+/* An attribute of the item of these numbers, which begins with these bytes. */
+static PyObject *attribute_of(const struct pending *self, const struct journal_item *item, const char *bytes,
+                              enum attribute attribute)
+{
+    PyObject *found = self->number;
+    switch (attribute) {
+    case CODE_NAME:
+        return code_of(self->native, item->code);
+    case PAYLOAD_NAME:
+        return PyBytes_FromStringAndSize(bytes + item->payload, (Py_ssize_t)(item->size - item->payload));
+    case ACK_NAME:
+        found = item->requested_ack == 1 ? Py_True : Py_False;
+        break;
+    case WORD_NAME:
+        return PyLong_FromUnsignedLongLong(item->word);
+    case OFFSET_NAME:
+        return PyLong_FromUnsignedLongLong(self->offset);
+    default:
+        break;
+    }
+    Py_INCREF(found);
+    return found;
+}
+
+/* The item of these numbers. Its attributes are set one by one, as __init__ does. */
 static PyObject *item_of(const struct pending *self, const struct journal_item *item)
 {
     const struct native *native = self->native;
-    bool is_message = item->kind == JOURNAL_ITEM_MESSAGE;
+    const struct fields *fields = &FIELDS[item->kind];
     const char *bytes = PyBytes_AsString(self->data) + self->begin;
-    PyObject *values = is_message ? PyDict_Copy(self->message) : PyDict_New();
-    if (values == NULL) {
-        return NULL;
+    PyTypeObject *class = (PyTypeObject *)native->items[item->kind];
+    newfunc make = (newfunc)PyType_GetSlot(class, Py_tp_new);
+    PyObject *made = make(class, native->nothing, NULL);
+    for (size_t at = 0; made != NULL && at < fields->count; at += 1) {
+        enum attribute attribute = fields->attributes[at];
+        PyObject *value = attribute_of(self, item, bytes, attribute);
+        if (value == NULL || PyObject_GenericSetAttr(made, native->attributes[attribute], value) != 0) {
+            Py_CLEAR(made);
+        }
+        Py_XDECREF(value);
     }
-    int failed = put(native, values, CODE_NAME, PyLong_FromUnsignedLongLong(item->code));
-    if (is_message && item->requested_ack == 1) {
-        failed |= PyDict_SetItem(values, native->attributes[ACK_NAME], Py_True);
-    } else if (!is_message) {
-        failed |= put(native, values, VERSION_NAME, PyLong_FromUnsignedLong(self->version));
-    }
-    if (item->kind != JOURNAL_ITEM_UNKNOWN_CODE) {
-        Py_ssize_t length = (Py_ssize_t)(item->size - item->payload);
-        failed |= put(native, values, PAYLOAD_NAME, PyBytes_FromStringAndSize(bytes + item->payload, length));
-    }
-    failed |= put(native, values, WORD_NAME, PyLong_FromUnsignedLongLong(item->word));
-    failed |= put(native, values, OFFSET_NAME, PyLong_FromUnsignedLongLong(self->offset));
-    PyObject *made = failed ? NULL : instance_of(native, native->items[item->kind], values);
-    Py_DECREF(values);
     return made;
 }
 
@@ -187,6 +223,21 @@ static PyObject *take(struct pending *self, PyObject *none)
         /* memory was collected, and what ran meanwhile took it */
         Py_DECREF(made);
     }
+}
+
+PyDoc_STRVAR(items_doc, "items(refuse)\n--\n\nIterates over the items, up to the first of which not all came. A number "
+                        "in place of an item is given to a function, which raises its error.");
+
+static PyObject *items(struct pending *self, PyObject *refuse)
+{
+    struct items *made = made_of(self->native, "_Items");
+    if (made != NULL) {
+        Py_INCREF(self);
+        made->pending = self;
+        Py_INCREF(refuse);
+        made->refuse = refuse;
+    }
+    return (PyObject *)made;
 }
 
 PyDoc_STRVAR(feed_doc, "feed(chunk)\n--\n\nAppends bytes, which are kept.");
@@ -259,7 +310,6 @@ static PyObject *head(struct pending *self, PyObject *none)
 
 int start_pending(struct pending *self, PyObject *version, PyObject *limit)
 {
-    const struct native *native = self->native;
     unsigned long number = PyLong_AsUnsignedLong(version);
     unsigned long most = limit == Py_None ? 0 : PyLong_AsUnsignedLong(limit);
     if (PyErr_Occurred()) {
@@ -272,18 +322,10 @@ int start_pending(struct pending *self, PyObject *version, PyObject *limit)
     self->version = (uint32_t)number;
     self->limit = (uint32_t)most;
     self->is_limited = limit != Py_None;
+    Py_INCREF(version);
+    self->number = version;
     self->chunks = PyList_New(0);
-    self->message = PyDict_New();
-    if (self->chunks == NULL || self->message == NULL) {
-        return -1;
-    }
-    PyObject *values[ATTRIBUTES] = {version, Py_None, Py_None, Py_False, Py_None, Py_None};
-    for (int at = 0; at < ATTRIBUTES; at += 1) {
-        if (PyDict_SetItem(self->message, native->attributes[at], values[at]) != 0) {
-            return -1;
-        }
-    }
-    return 0;
+    return self->chunks == NULL ? -1 : 0;
 }
 
 static int pending_traverse(struct pending *self, visitproc visit, void *arg)
@@ -298,15 +340,16 @@ static void pending_dealloc(struct pending *self)
     PyTypeObject *type = Py_TYPE(self);
     PyObject_GC_UnTrack(self);
     Py_XDECREF(self->native);
+    Py_XDECREF(self->number);
     Py_XDECREF(self->data);
     Py_XDECREF(self->chunks);
-    Py_XDECREF(self->message);
     PyObject_GC_Del(self);
     Py_DECREF(type);
 }
 
 static PyMethodDef pending_methods[] = {
     {"take", (PyCFunction)take, METH_NOARGS, take_doc},
+    {"items", (PyCFunction)items, METH_O, items_doc},
     {"feed", (PyCFunction)feed, METH_O, feed_doc},
     {"rest", (PyCFunction)rest, METH_NOARGS, rest_doc},
     {"trailing", (PyCFunction)trailing, METH_NOARGS, trailing_doc},
@@ -329,4 +372,65 @@ PyType_Spec pending_spec = {
     .basicsize = sizeof(struct pending),
     .flags = Py_TPFLAGS_DEFAULT | Py_TPFLAGS_HAVE_GC,
     .slots = pending_slots,
+};
+
+/* The next item; NULL at the end, or with an exception, after either of which the loop has ended. */
+static PyObject *next_item(struct items *self)
+{
+    struct pending *pending = self->pending;
+    if (pending == NULL) {
+        return NULL;
+    }
+    /* what runs while memory is collected may end the loop */
+    Py_INCREF(pending);
+    PyObject *taken = take(pending, NULL);
+    Py_DECREF(pending);
+    if (taken != NULL && taken != Py_None && !PyLong_CheckExact(taken)) {
+        return taken;
+    }
+    Py_CLEAR(self->pending);
+    if (taken != NULL && taken != Py_None) {
+        PyObject *raised = PyObject_CallFunctionObjArgs(self->refuse, taken, NULL);
+        if (raised != NULL) {
+            Py_DECREF(raised);
+            PyErr_SetString(PyExc_SystemError, "an error that was not raised");
+        }
+    }
+    Py_XDECREF(taken);
+    return NULL;
+}
+
+static int items_traverse(struct items *self, visitproc visit, void *arg)
+{
+    Py_VISIT(self->pending);
+    Py_VISIT(self->refuse);
+    Py_VISIT(Py_TYPE(self));
+    return 0;
+}
+
+static void items_dealloc(struct items *self)
+{
+    PyTypeObject *type = Py_TYPE(self);
+    PyObject_GC_UnTrack(self);
+    Py_XDECREF(self->pending);
+    Py_XDECREF(self->refuse);
+    PyObject_GC_Del(self);
+    Py_DECREF(type);
+}
+
+static PyType_Slot items_slots[] = {
+    {Py_tp_doc, "A loop over what came of a stream."},
+    {Py_tp_new, made_by_native},
+    {Py_tp_iter, PyObject_SelfIter},
+    {Py_tp_iternext, next_item},
+    {Py_tp_traverse, items_traverse},
+    {Py_tp_dealloc, items_dealloc},
+    {0, NULL},
+};
+
+PyType_Spec items_spec = {
+    .name = "pendratsoa._compiled.Items",
+    .basicsize = sizeof(struct items),
+    .flags = Py_TPFLAGS_DEFAULT | Py_TPFLAGS_HAVE_GC,
+    .slots = items_slots,
 };

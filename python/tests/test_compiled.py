@@ -204,10 +204,11 @@ class TestCompiled(unittest.TestCase):
         self.assertRaises(TypeError, native.call, 0, 5)
         for arguments in ((1 << 32, None), (8, 1 << 32), (-1, None), ("8", None), (8, "1")):
             self.assertRaises((TypeError, OverflowError), native.pending, *arguments)
-        for made in (native.of(0), native.call(0, "name"), native.pending(8, None)):
+        pending = native.pending(8, None)
+        for made in (native.of(0), native.call(0, "name"), pending, pending.items(None)):
             self.assertRaises(TypeError, type(made))
         used = sys.getrefcount(Value)
-        del native, made
+        del native, pending, made
         gc.collect()
         self.assertEqual(sys.getrefcount(Value), used - 1)
 
@@ -233,6 +234,28 @@ class TestCompiled(unittest.TestCase):
                 self.assertRaises(SystemError, _taken, INPUT)
         self.assertEqual(pending.take().bytes, INPUT)
         self.assertEqual((pending.take(), pending.rest(), pending.offset()), (None, 0, len(INPUT)))
+
+    def test_a_loop_over_what_is_left(self):
+        pending, given = _fast.pending_of(8, None), []
+        pending.feed(INPUT * 2)
+        items = pending.items(given.append)
+        self.assertIs(iter(items), items)
+        self.assertEqual(next(items).bytes, INPUT)
+        # what gives the number to a function that raises nothing
+        for number, numbers in ((-2, ()), (0, (3, 0, 0, 0, len(INPUT), 8))):
+            with replaced("journal_next", returning(number, *numbers)):
+                self.assertRaises(SystemError, next, pending.items(given.append))
+        self.assertEqual(given, [-2, 3])
+        with replaced("journal_next", returning(-2)):
+            self.assertRaises(TypeError, next, pending.items(None))
+        self.assertEqual([item.offset for item in items], [len(INPUT)])
+
+    def test_codes_that_have_one_place(self):
+        pending = _fast.native().pending(8, None)
+        codes = [*range(0xFC00, 0xFD00), *range(0xFC00, 0xFD00), *[0xFCFF] * 2]
+        for code in codes:
+            pending.feed(pendratsoa.header(8, code, 0))
+        self.assertEqual([item.code for item in pending.items(None)], codes)
 
     def test_long_calls_of_several_threads(self):
         record = OutputCommandMessage(result=Value(bytes(range(256)) * 4000))
@@ -313,13 +336,14 @@ class TestCompiled(unittest.TestCase):
     def test_references(self):
         record = ErrorMessage(behavior=ErrorBehavior.PAUSE, message="text")
         payload = SAMPLES[2].encode()
-        held = (None, Value, Header, ErrorBehavior.PAUSE, b"", "", record, payload, record.message)
+        held = (None, False, Value, Header, Message, ErrorBehavior.PAUSE, b"", "", (), record, payload, record.message)
         # those that are never freed have a count that says nothing
         held = [one for one in held if sys.getrefcount(one) < 1 << 28]
 
         def work():
             for _ in range(300):
                 CallCommandMessage.decode(payload).encode()
+                _taken(INPUT)
                 ErrorMessage.decode(record.encode())
                 ends(Value(content="text").encode)
                 ends(lambda: Value.decode(b"\n"))

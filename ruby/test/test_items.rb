@@ -82,6 +82,18 @@ class TestItems < Minitest::Test
     end
   end
 
+  def test_the_word_of_a_message
+    data = read("examples/streams/recorded")
+    # flags that no type has, and one that requests an acknowledgement
+    data += unhex("fc01ffff00000000fc01800000000000")
+    Pendratsoa::Stream.new.feed(data).each do |item|
+      assert_equal data.unpack1("Q>", offset: item.offset), item.word
+      assert_equal item.word, item.dup.word
+    end
+    assert_equal 1, Pendratsoa::Message.new(8, CODES[:input], "", word: 1).word
+    assert_nil Pendratsoa::Message.new(8, CODES[:input], "", offset: 1).word
+  end
+
   def test_a_message_of_a_type
     { 6 => false, 7 => true }.each do |version, requested_ack|
       message = Pendratsoa::Message.of("ProposeRunCompletion", "\x08\x01", version: version)

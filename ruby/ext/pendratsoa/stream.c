@@ -143,16 +143,23 @@ static int64_t look(struct pending *self, struct journal_item *item)
     return missing;
 }
 
-/* Makes an instance of a Struct of these members, frozen. */
+/* The word that follows from the members of a message, as `word` of it has it. */
+static uint64_t word_of_members(const struct journal_item *item)
+{
+    uint64_t flag = item->requested_ack == 1 ? UINT64_C(1) << 47 : 0;
+    return item->code << 48 | flag | (item->size - item->payload);
+}
+
+/* Makes an instance of a Struct of these members, frozen. A variable of a Struct is looked up in a table of all
+ * objects, so a message has its word only where it does not follow from its members. */
 static VALUE item_of(const struct pending *self, const struct journal_item *item)
 {
     bool is_message = item->kind == JOURNAL_ITEM_MESSAGE;
-    VALUE word = ULL2NUM(item->word);
     VALUE made = rb_obj_alloc(native.items[item->kind]);
     rb_struct_aset(made, INT2FIX(0), UINT2NUM(self->version));
     rb_struct_aset(made, INT2FIX(1), ULL2NUM(item->code));
     if (!is_message) {
-        rb_struct_aset(made, INT2FIX(2), word);
+        rb_struct_aset(made, INT2FIX(2), ULL2NUM(item->word));
     }
     if (item->kind != JOURNAL_ITEM_UNKNOWN_CODE) {
         /* a copy; a part of what came could keep all of it in memory */
@@ -162,7 +169,9 @@ static VALUE item_of(const struct pending *self, const struct journal_item *item
     }
     if (is_message) {
         rb_struct_aset(made, INT2FIX(3), item->requested_ack == 1 ? Qtrue : Qfalse);
-        rb_ivar_set(made, word_variable, word);
+        if (item->word != word_of_members(item)) {
+            rb_ivar_set(made, word_variable, ULL2NUM(item->word));
+        }
     }
     rb_ivar_set(made, offset_variable, ULL2NUM(self->offset));
     return rb_obj_freeze(made);

@@ -91,16 +91,22 @@ module Pendratsoa
 
     alias_method :requested_ack?, :requested_ack
 
-    attr_reader :word
-
     # `received` is its payload as received, if a numbering has read it.
     def initialize(version, code, payload, requested_ack = false, word: nil, offset: nil, received: nil)
       bytes = Call.new("Message.new", payload: payload).data(:payload)
       super(version, code, bytes, requested_ack ? true : false)
-      @word = word
+      @word = word || false
       @offset = offset
       @received = received
       freeze
+    end
+
+    # The eight bytes of its header as one big-endian number, or nil if it came in no stream.
+    def word
+      return @word || nil if @offset.nil? || !@word.nil?
+
+      # the compiled module has left out one that is this
+      (code << 48) | (requested_ack ? 1 << 47 : 0) | payload.bytesize
     end
 
     # The message of a type, which is given by its code or by its name as "SleepCommand" or :SleepCommand, with a
@@ -217,9 +223,10 @@ module Pendratsoa
 
     # The message as received; if it came in no stream, its payload as it is after the header of its type.
     def bytes
-      return Pendratsoa.header(version, code, payload.bytesize) << payload unless word
+      came = word
+      return Pendratsoa.header(version, code, payload.bytesize) << payload unless came
 
-      [word].pack("Q>") << (@received || payload)
+      [came].pack("Q>") << (@received || payload)
     end
 
     # Its id and its result, if it is a notification.

@@ -41,7 +41,8 @@ module Pendratsoa
 
     # How many bytes longer an item was as received, since a numbering has read its payload.
     def self.longer_by(item)
-      item.is_a?(Message) && item.word ? item.bytes.bytesize - HEADER - item.payload.bytesize : 0
+      received = item.instance_variable_get(:@received)
+      received && item.word ? received.bytesize - item.payload.bytesize : 0
     end
 
     # A message with another payload: its header is the same but the length.
