@@ -18,7 +18,7 @@ PHRASES = (
 )
 
 HEAD = """\
-What is linked into the programs and the library of Pendratsoa from the Rattle toolchain: its crates, each with its
+What is linked into {what} of Pendratsoa from the Rattle toolchain: its crates, each with its
 licences. A crate that is a port of one for Rust, or has parts of others, has theirs, whose texts follow.
 
 """
@@ -73,7 +73,7 @@ def texts_of(folder: pathlib.Path) -> dict[str, str]:
     return {file.name: file.read_text() for file in sorted(folder.glob("LICENSE*"))}
 
 
-def page(found: list[Linked]) -> str:
+def page(found: list[Linked], what: str = "the programs and the library") -> str:
     """The licences of all of them, for anyone who passes on what they are linked into; each text is there once."""
     users: dict[str, list[str]] = {}
     for each in found:
@@ -81,4 +81,4 @@ def page(found: list[Linked]) -> str:
             users.setdefault(f"{text.strip()}\n", []).append(each.name)
     lines = [f"{each.name}: {each.expression() if each.texts else NONE}\n" for each in found]
     texts = [f"\n{'=' * 78}\n{', '.join(dict.fromkeys(names))}\n\n{text}" for text, names in users.items()]
-    return HEAD + "".join(lines) + "".join(texts)
+    return HEAD.format(what=what) + "".join(lines) + "".join(texts)

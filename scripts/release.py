@@ -43,6 +43,11 @@ from package import NotMade, needs, run, version
 ROOT = pathlib.Path(__file__).resolve().parent.parent
 DESCRIPTION = "pendratsoa, the journal protocol of the Restate SDKs"
 
+# The crates that are compiled into files, and which of them a file has.
+PROGRAMS = ("journal", "journal_list")
+LIBRARY = "journal_ffi"
+Compiled = dict[pathlib.Path, tuple[str, ...]]
+
 # What of a package stays in the repository: tests, and what is for git.
 TESTS = re.compile(r"(^|/)(tests?/|\.)|_test\.go$")
 
@@ -100,8 +105,10 @@ class Release:
         self.out = pathlib.Path(options.folder).resolve()
         self.date = int(package.seconds())
         self.machines = [each for each in MACHINES if options.machine in (None, each.name)]
-        self.linked = linked.linked(["journal", "journal_list", "journal_ffi"])
-        self.licences = {"LICENSE": pathlib.Path("LICENSE").read_text(), "LINKED.txt": linked.page(self.linked)}
+        licence, of_library = pathlib.Path("LICENSE").read_text(), linked.page(linked.linked([LIBRARY]), "the library")
+        self.licences = {"LICENSE": licence, "LINKED.txt": linked.page(linked.linked([*PROGRAMS, LIBRARY]))}
+        # those of the packages, which have no programs
+        self.library_licences = {"LICENSE": licence, "LINKED.txt": of_library}
         self.prefixes = {machine.name: self.installed(machine) for machine in self.machines}
         self.proved = PROVED.format(**said, **self.made_with()) + trusted()
 
@@ -139,7 +146,7 @@ class Release:
         for page in target.rglob("README.md"):
             path = f"{folder}/{page.relative_to(target)}"
             page.write_text(released_pages.released(folder, path, page.read_text()))
-        for file, text in self.licences.items():
+        for file, text in self.library_licences.items():
             package.write(target / file, text)
         return target
 
@@ -238,7 +245,7 @@ def npm(release: Release) -> None:
     # what npm takes of a package: what it lists, and these
     description = json.loads((folder / "package.json").read_text())
     packed = release.work / "npm"
-    for name in ["README.md", *release.licences, *description["files"]]:
+    for name in ["README.md", *release.library_licences, *description["files"]]:
         (packed / name).parent.mkdir(parents=True, exist_ok=True)
         (folder / name).rename(packed / name)
     del description["scripts"]
@@ -299,6 +306,9 @@ def reference(release: Release) -> None:
 FOR_EACH = (wheel, gem, deb, tarball)
 FOR_ALL = (npm, page, rust, go_module, reference)
 
+# The crates of this repository that are compiled into the files of a kind, if that is not the library.
+COMPILED = {deb: (*PROGRAMS, LIBRARY), tarball: (*PROGRAMS, LIBRARY), reference: ()}
+
 
 def results(options: argparse.Namespace) -> dict[str, str]:
     """What the outputs of the gate and of the checks on other systems say at their ends, in which no case has failed,
@@ -336,10 +346,10 @@ def commit(is_draft: bool) -> str:
     return f"{name}, with changes that are not committed: a draft" if changed else name
 
 
-def contents(release: Release, files: list[pathlib.Path]) -> str:
-    """The list of what is within, as SPDX has it."""
+def contents(release: Release, compiled: Compiled) -> str:
+    """The list of what is within, as SPDX has it: of each file what the crates link that are compiled into it."""
     created = datetime.datetime.fromtimestamp(release.date, datetime.timezone.utc).strftime("%Y-%m-%dT%H:%M:%SZ")
-    sums = {file.name: hashlib.sha256(file.read_bytes()).hexdigest() for file in files}
+    sums = {file.name: hashlib.sha256(file.read_bytes()).hexdigest() for file in sorted(compiled)}
 
     def described(name: str, licence: str, **more: object) -> dict[str, object]:
         return {
@@ -358,10 +368,11 @@ def contents(release: Release, files: list[pathlib.Path]) -> str:
                   checksums=[{"algorithm": "SHA256", "checksumValue": value}])
         for name, value in sums.items()
     ]
-    packages += [described(f"toolchain/{each.name}", each.expression()) for each in release.linked]
-    crates_of = [spdx_name(f"toolchain/{each.name}") for each in release.linked]
+    links = [(file.name, each) for file, parts in sorted(compiled.items()) if parts for each in linked.linked([*parts])]
+    licences = {f"toolchain/{each.name}": each.expression() for _, each in links}
+    packages += [described(name, licences[name]) for name in sorted(licences)]
     relations = [("SPDXRef-DOCUMENT", "DESCRIBES", spdx_name(name)) for name in sums]
-    relations += [(spdx_name(name), "STATIC_LINK", crate) for name in sums for crate in crates_of]
+    relations += [(spdx_name(file), "STATIC_LINK", spdx_name(f"toolchain/{each.name}")) for file, each in links]
     text = "\n".join(f"{name} {value}" for name, value in sums.items())
     return json.dumps({
         "spdxVersion": "SPDX-2.3",
@@ -394,19 +405,24 @@ def make(options: argparse.Namespace, work: pathlib.Path) -> list[pathlib.Path]:
     release = Release(work, options)
     out.mkdir(parents=True, exist_ok=True)
     os.environ["SOURCE_DATE_EPOCH"] = str(release.date)
-    for make_for in FOR_EACH:
+    compiled: Compiled = {}
+
+    def add(kind: collections.abc.Callable[..., None], *machine: Machine) -> None:
+        if wanted(kind, options):
+            tell(f"{kind.__name__} for {', '.join(each.name for each in machine or release.machines)}")
+            kind(release, *machine)
+            new = set(release.out.iterdir()) - compiled.keys()
+            compiled.update(dict.fromkeys(new, COMPILED.get(kind, (LIBRARY,))))
+
+    for kind in FOR_EACH:
         for machine in release.machines:
-            if wanted(make_for, options):
-                tell(f"{make_for.__name__} for {machine.name}")
-                make_for(release, machine)
-    for make_all in FOR_ALL:
-        if wanted(make_all, options):
-            tell(f"{make_all.__name__} for {', '.join(machine.name for machine in release.machines)}")
-            make_all(release)
+            add(kind, machine)
+    for kind in FOR_ALL:
+        add(kind)
     tell("what is within, and the checksums")
-    files = sorted(release.out.iterdir())
     package.write(release.out / "PROVED", release.proved)
-    package.write(release.out / f"pendratsoa-{version()}.spdx.json", contents(release, files))
+    compiled[release.out / "PROVED"] = ()
+    package.write(release.out / f"pendratsoa-{version()}.spdx.json", contents(release, compiled))
     files = sorted(release.out.iterdir())
     sums = "".join(f"{hashlib.sha256(file.read_bytes()).hexdigest()}  {file.name}\n" for file in files)
     made = [*files, release.out / "SHA256SUMS"]

@@ -1,29 +1,29 @@
 #!/usr/bin/env python3
 """A release for this processor: each stage has a line; the tarball is installed, used, removed; the packages' pages
-lead to files; the checksums are signed; wrong words are rejected.
+lead to files; each file is on the pages and in the list of what is within; the checksums are signed.
 
-It takes the proved programs and library, and installs the tarball below a folder. What needs other compilers, another
-processor or a bare system is in release.py, which is run before a release.
+It takes the proved programs and library, and installs the tarball below a folder. A browser opens the page, if it is
+there. Wrong words are rejected. What needs other compilers, another processor or a bare system is in release.py, which
+is run before a release.
 """
 from __future__ import annotations
 
-import io
+import os
 import pathlib
 import posixpath
 import re
-import sys
-import tarfile
-import zipfile
 
 import checks
+import listed
 import release
-
-sys.path.insert(1, str(checks.ROOT / "scripts"))
-
-import released_pages  # noqa: E402
+import released_pages
+import uses
 
 # What is made, each with a stage of its own; the check reference makes the pages.
 KINDS = ("wheel", "gem", "npm", "page", "deb", "tarball", "rust", "go_module")
+
+# The rows of files that are not made here.
+NOT_MADE = (released_pages.ARCHIVE, "SHA256SUMS.minisig")
 
 
 def used(check: checks.Check, folder: pathlib.Path) -> None:
@@ -32,10 +32,24 @@ def used(check: checks.Check, folder: pathlib.Path) -> None:
     check.command("tar", ["tar", "-xf", folder / f"{name}.tar.gz", "-C", check.work])
     script, prefix = check.work / name / "install.sh", check.work / "prefix"
     check.command("install.sh", ["sh", script, prefix])
-    for (program, *words), of in release.PRINTS:
-        expected = of.encode() if isinstance(of, str) else of.read_bytes()
-        ended = checks.run([prefix / "bin" / program, *words])
-        check.same(f"{program} {' '.join(map(str, words))}", expected, ended.out or ended.err)
+    top = check.work / "top"
+    top.mkdir()
+    (top / "examples").symlink_to(checks.ROOT / "examples")
+
+    def run(words: list[str], given: bytes) -> checks.Run:
+        program, *others = words
+        place = prefix / "bin" / program if program in uses.INSTALLED else program
+        return checks.run([place, *others], given, cwd=top, env={"PATH": os.environ["PATH"]})
+
+    uses.programs(check, "installed", top, run)
+    installed = checks.names_below(prefix)
+    programs = [name.removeprefix("bin/") for name in installed if name.startswith("bin/")]
+    check.same("the programs that are installed", sorted(uses.INSTALLED), programs)
+    folders = re.findall(r"`PREFIX/([\w/-]+)`", listed.README.read_text(encoding="utf-8"))
+    absent = [name for name in installed if not any(name.startswith(f"{folder}/") for folder in folders)]
+    check.case(f"{listed.README} has a row for what is installed", not absent, absent)
+    empty = [folder for folder in folders if not any(name.startswith(f"{folder}/") for name in installed)]
+    check.case(f"{listed.README} has no other row", not empty, empty)
     check.command("install.sh --uninstall", ["sh", script, "--uninstall", prefix])
     left = checks.names_below(prefix) if prefix.exists() else []
     check.case("install.sh --uninstall leaves nothing", not left, left)
@@ -43,25 +57,6 @@ def used(check: checks.Check, folder: pathlib.Path) -> None:
 
 # The packages, by what their files match.
 PACKAGES = ("*.whl", "*.gem", "pendratsoa-*.tgz", "pendratsoa-rust-*.tar.gz", "pendratsoa-go-*.tar.gz")
-
-
-def contents(package: pathlib.Path) -> dict[str, bytes]:
-    """The files of a package, by their paths in it. The README of a wheel is in its metadata."""
-    if package.suffix == ".whl":
-        with zipfile.ZipFile(package) as packed:
-            found = {name: packed.read(name) for name in packed.namelist()}
-        metadata = next(name for name in found if name.endswith(".dist-info/METADATA"))
-        return {**found, "README.md": found[metadata].partition(b"\n\n")[2]}
-    data = package.read_bytes()
-    if package.suffix == ".gem":
-        with tarfile.open(fileobj=io.BytesIO(data)) as outer:
-            data = outer.extractfile("data.tar.gz").read()
-    with tarfile.open(fileobj=io.BytesIO(data)) as packed:
-        found = {entry.name: packed.extractfile(entry).read() for entry in packed if entry.isreg()}
-    if package.suffix == ".gem":
-        return found
-    # all is below one folder
-    return {name.partition("/")[2]: text for name, text in found.items()}
 
 
 def dead(page: str, text: str, names: set[str]) -> list[str]:
@@ -76,11 +71,13 @@ def dead(page: str, text: str, names: set[str]) -> list[str]:
     return found + [path for path in paths if path not in archived | names]
 
 
-def linked(check: checks.Check, folder: pathlib.Path) -> None:
+def lead(check: checks.Check, folder: pathlib.Path) -> None:
     """What the READMEs of packages link to is in the package, or in the archive of pages."""
     for pattern in PACKAGES:
-        for package in sorted(folder.glob(pattern)):
-            files = contents(package)
+        packages = sorted(folder.glob(pattern))
+        check.case(f"one package is {pattern}", len(packages) == 1, packages)
+        for package in packages:
+            files = listed.contents(package)
             found = [name for name in files if posixpath.basename(name) == "README.md"]
             check.case(f"{package.name} has a README", "README.md" in found, sorted(files))
             for page in found:
@@ -97,7 +94,10 @@ def main(check: checks.Check) -> None:
     for kind in KINDS:
         check.case(f"release.sh says that it makes {kind}", f"release.sh: {kind} for x86_64\n" in said, said)
     used(check, folder)
-    linked(check, folder)
+    listed.named(check, folder, NOT_MADE)
+    listed.within(check, folder)
+    lead(check, folder)
+    uses.opened(check, folder / "journal_view.html")
     release.signed(check)
 
 

@@ -59,7 +59,7 @@ def links(check: checks.Check, out: pathlib.Path) -> None:
         for target in sorted(set(re.findall(r'href="([^":]*)"', page.read_text(encoding="utf-8")))):
             file, _, anchor = html.unescape(target).partition("#")
             there = page.parent / file if file else page
-            if not there.is_file() or anchor and f'id="{html.escape(anchor)}"' not in there.read_text(encoding="utf-8"):
+            if not there.exists() or anchor and f'id="{html.escape(anchor)}"' not in there.read_text(encoding="utf-8"):
                 wrong.append(f"{page.name}: {target}")
     check.case(f"the links of {out.name}", not wrong, wrong)
 

@@ -4,8 +4,9 @@
 It is run before a release, and not by the gate, in which files.py makes the files for one processor.
 scripts/release.sh makes the files of what is proved, and once more those that have the library and the programs, in a
 clone of another name with another day, language and mask. The bare systems are roots of Debian's base packages and the
-interpreters, which mmdebstrap makes from the source of packages that apt is set up with, one for x86-64 and one for
-arm64, under qemu: without a compiler, the toolchain or a network. C, Rust and Go are compiled outside of them.
+interpreters, which mmdebstrap makes from the source of packages that apt is set up with, one for x86-64, with tshark,
+and one for arm64, under qemu: without a compiler, the toolchain or a network. C, Rust and Go are compiled outside of
+them, and a browser outside opens the page. Streams and examples are those of the archive of pages.
 """
 from __future__ import annotations
 
@@ -15,13 +16,21 @@ import os
 import pathlib
 import re
 import shutil
+import typing
 
 import checks
 import crates
+import listed
 import machines
+import reference
+import released_pages
+import replayed
+import uses
+import wireshark
+import write_numbering
 
 VERSION = checks.library_version()
-STREAMS = pathlib.Path("examples/streams")
+STREAMS = uses.STREAMS
 LISTED = (STREAMS / "replay", STREAMS / "replay.stdout")
 
 # The latest glibc whose symbols the library and the addon may have, that of Debian 11, and the programs, which have
@@ -29,27 +38,36 @@ LISTED = (STREAMS / "replay", STREAMS / "replay.stdout")
 LIBRARY_GLIBC = (2, 31)
 PROGRAMS_GLIBC = (2, 34)
 
-# What the bare systems have in addition to the packages of every system.
+# What the bare systems have in addition to the packages of every system, and the second one in their place.
 PACKAGES = {
-    "x86_64": ("python3-venv", "ruby", "ruby-minitest", "nodejs"),
+    "x86_64": ("python3-venv", "ruby", "ruby-minitest", "nodejs", "tshark"),
     # the last one has the standard library of Rust, with which the crate is compiled outside
-    "aarch64": ("python3", "python3-pip-whl", "ruby", "nodejs", "libstd-rust-dev"),
+    "aarch64": ("python3", "python3-pip-whl", "ruby", "nodejs", "coreutils", "grep", "sed", "libstd-rust-dev"),
 }
 
-# Of how many test vectors one is taken: under qemu a few, since scripts/checks/arm64.sh takes all of them there.
+# Of how many test vectors and replays one is taken: under qemu a few, since scripts/checks/arm64.sh takes all of them
+# there.
 TAKEN_OF = {"x86_64": 1, "aarch64": 10}
 
-# What the programs print: their words, and the file of it or the text.
-PRINTS = (
-    (("journal_list", STREAMS / "replay"), STREAMS / "replay.stdout"),
-    (("journal_dump", STREAMS / "replay"), STREAMS / "replay.dump"),
-    (("journal", "make", STREAMS / "replay.dump"), STREAMS / "replay"),
-    (("journal", "diff", STREAMS / "recorded", STREAMS / "recorded"), "same, 4 commands\n"),
-    (("journal", "--version"), f"journal {VERSION}\n"),
-)
+# What the roots have of this repository, for test vectors.
+TAKEN = ("conformance", "include", "proto", "python", "ruby/test", "node/test")
 
-# What the roots have of this repository, for examples and test vectors.
-TAKEN = ("examples", "conformance", "include", "proto", "python", "ruby/test", "node/test")
+# The descriptor sets of the packages' tests, by which the programs of their pages are run.
+PYTHON_SET = """
+import sys
+sys.path.append("/trial/python/tests")
+import descriptors
+sys.stdout.buffer.write(descriptors.SMALL)
+"""
+RUBY_SET = ("-rpendratsoa", "-I", "/trial/ruby/test", "-rdescriptors", "-e", "print Descriptors::SMALL")
+
+# Prints the expressions of a page whose lines have what they are.
+RUBY_LINES = """
+File.foreach(ARGV[0]) do |line|
+  found = TOPLEVEL_BINDING.eval(line)
+  puts found.inspect if line.include?("# =>")
+end
+"""
 
 # What dpkg and ldconfig note of what they do, and the folders that gem makes for its first gem; all else is a trace.
 NOTES = re.compile(
@@ -99,6 +117,8 @@ class Trial:
         self.inside = self.root.folder / "trial"
         for name in TAKEN:
             shutil.copytree(name, self.inside / name, dirs_exist_ok=True)
+        unpack(self, released_pages.ARCHIVE, self.inside / "pages")
+        (self.inside / "examples").symlink_to("pages/examples")
         self.lines = []
         for file in sorted((self.inside / "conformance").rglob("*.txt")):
             lines = [line for line in file.read_bytes().splitlines(keepends=True) if not line.startswith((b"#", b"\n"))]
@@ -144,10 +164,27 @@ class Trial:
         self.check.case(f"{name}, {self.machine.name}", ended.status == 0, ended)
         return ended
 
+    def prints(self, name: str, expected: bytes, *words: str | pathlib.Path, **how: typing.Any) -> None:
+        """A program in the root prints this."""
+        ended = self.root.run(*words, **how)
+        self.check.same(f"{name}, {self.machine.name}", expected, ended.out or ended.err)
+
     def lists(self, name: str, *words: str | pathlib.Path, **env: str) -> None:
         """An example in the root lists a stream."""
-        ended = self.root.run(*words, given=LISTED[0], **env)
-        self.check.same(f"{name}, {self.machine.name}", LISTED[1].read_bytes(), ended.out or ended.err)
+        self.prints(name, LISTED[1].read_bytes(), *words, given=LISTED[0], **env)
+
+    def replays(self, language: str, *words: str | pathlib.Path, **env: str) -> None:
+        """An example in the root that checks a replay prints what the table of the examples has."""
+        recording = self.inside / "recording"
+        for case in replayed.cases()[:: TAKEN_OF[self.machine.name]]:
+            recording.unlink(missing_ok=True)
+            if case.recorded != "missing":
+                recording.write_bytes(replayed.stream(case.recorded))
+            given = replayed.stream(case.replayed)
+            ended = self.root.run(*words, "/trial/recording", case.version, given=given, **env)
+            is_right = (ended.status, ended.out.decode(), bool(ended.err)) == (case.status, case.printed, case.says_why)
+            name = f"the replay in {language}, {case.recorded} {case.replayed}, {self.machine.name}"
+            self.check.case(name, is_right, ended)
 
     def vectors(self, name: str, *words: str | pathlib.Path, **env: str) -> None:
         """A program in the root that counts test vectors, which it is given, and of which none fails."""
@@ -167,11 +204,31 @@ class Trial:
         return self.file(f"pendratsoa-{VERSION}-linux-{self.machine.name}.tar.gz")
 
     def programs(self, name: str, folder: str) -> None:
-        """What the programs in a folder of the root print."""
-        for (program, *words), of in PRINTS:
-            expected = of.encode() if isinstance(of, str) else of.read_bytes()
-            ended = self.root.run(f"{folder}/{program}", *words)
-            self.check.same(f"{program} {' '.join(map(str, words))}, {name}", expected, ended.out or ended.err)
+        """The programs in a folder of the root print what they should."""
+        is_emulated = bool(self.root.emulator)
+
+        def run(words: list[str], given: bytes) -> checks.Run:
+            program, *others = words
+            if program not in uses.INSTALLED:
+                # the emulator takes a path
+                places = (f"{place}/{program}" for place in ("usr/bin", "bin"))
+                found = next((place for place in places if (self.root.folder / place).exists()), program)
+                return self.root.run(f"/{found}", *others, given=given)
+            # and no script
+            by = ["/usr/bin/python3"] if is_emulated and program == "journal_view" else []
+            return self.root.run(*by, f"{folder}/{program}", *others, given=given)
+
+        uses.programs(self.check, name, self.inside, run, runs_children=not is_emulated)
+
+    def dissector(self, share: str) -> None:
+        """tshark shows by the dissector in a folder of the root what its page has; under qemu it is the same file."""
+        script = pathlib.Path(share, "wireshark", wireshark.SCRIPT.name)
+        if self.root.emulator:
+            found = (self.root.folder / script.relative_to("/")).read_bytes()
+            self.check.same(f"{script}, {self.machine.name}", wireshark.SCRIPT.read_bytes(), found)
+            return
+        wireshark.write_captures(self.inside, LISTED[0].read_bytes(), script)
+        wireshark.show_page(self.check, lambda command: self.root.run("sh", "-c", command, HOME="/trial"))
 
     def removed(self, name: str, use: collections.abc.Callable[[], None]) -> None:
         """What is installed, used and removed leaves no trace."""
@@ -188,9 +245,14 @@ class Trial:
         self.check.command("tar", ["tar", "-xf", self.release / pathlib.Path(self.tarball).name, "-C", unpacked,
                                    "--strip-components=1"])
         library = unpacked / "lib"
+        examples = self.inside / "pages/examples/c"
+        numbering = self.work / "numbering.c"
+        numbering.write_text(uses.program_of("docs/C.md", "c")[0])
         for source, name, linked in (
-            ("examples/c/listing.c", "static", "libpendratsoa.a"),
-            ("examples/c/listing.c", "shared", "libpendratsoa.so"),
+            (examples / "listing.c", "static", "libpendratsoa.a"),
+            (examples / "listing.c", "shared", "libpendratsoa.so"),
+            (examples / "replay.c", "replay_in_c", "libpendratsoa.so"),
+            (numbering, "numbering_in_c", "libpendratsoa.so"),
             ("tests/c/test_vectors.c", "vectors", "libpendratsoa.so"),
         ):
             words = [f"{self.machine.tools}gcc", "-O2", "-I", unpacked / "include", source, library / linked]
@@ -216,12 +278,33 @@ class Trial:
         """The example and the test vectors in C, with the library that is installed."""
         self.lists("the listing in C, static", "/trial/static")
         self.lists("the listing in C, shared", "/trial/shared", **env)
+        self.replays("C", "/trial/replay_in_c", **env)
+        printed = uses.program_of("docs/C.md", "c")[1]
+        self.prints("other field numbers in C", printed, "/trial/numbering_in_c", **env)
         self.vectors("the test vectors in C", "/trial/vectors", "schemas", **env)
 
     def of_python(self, *python: str | pathlib.Path, **env: str) -> None:
+        """The package for Python in the root, by this interpreter."""
         self.says_compiled("Python", *python, "-c", "import pendratsoa; print(pendratsoa.COMPILED)", **env)
         self.lists("the listing in Python", *python, "examples/python/listing.py", **env)
+        self.replays("Python", *python, "examples/python/replay.py", **env)
+        program, printed = uses.program_of("python/README.md", "python")
+        (self.inside / "numbering.py").write_text(program)
+        (self.inside / "set.binpb").write_bytes(self.root.run(*python, "-c", PYTHON_SET, **env).out)
+        self.prints("other field numbers in Python", printed, *python, "numbering.py", **env)
         self.vectors("the test vectors in Python", *python, "scripts/checks/conformance_calls.py", **env)
+
+    def of_ruby(self, ruby: str, **env: str) -> None:
+        """The gem in the root, by this interpreter."""
+        self.says_compiled("Ruby", ruby, "-rpendratsoa", "-e", "puts Pendratsoa::COMPILED", **env)
+        self.lists("the listing in Ruby", ruby, "/trial/ruby/listing.rb", **env)
+        self.replays("Ruby", ruby, "/trial/ruby/replay.rb", **env)
+        program, _ = uses.program_of("ruby/README.md", "ruby")
+        (self.inside / "numbering.rb").write_text(program)
+        (self.inside / "set.binpb").write_bytes(self.root.run(ruby, *RUBY_SET, **env).out)
+        printed = "".join(f"{line}\n" for line in re.findall("# => (.*)", program)).encode()
+        words = ("-rpendratsoa", "-e", RUBY_LINES, "numbering.rb")
+        self.prints("other field numbers in Ruby", printed, ruby, *words, **env)
 
     def says_compiled(self, language: str, *words: str | pathlib.Path, **env: str) -> None:
         """A package uses its compiled module."""
@@ -249,13 +332,21 @@ class Trial:
         shutil.copytree("node/test", package / "test")
         (user / "node_modules/conformance").symlink_to("/trial/conformance")
         test = "user/node_modules/pendratsoa/test/conformance.js"
+        program, printed = uses.program_of("node/README.md", "ts")
+        (user / "numbering.mjs").write_text(program)
+        write_numbering.main(user)
         for calls in ("addon", "module"):
-            self.vectors(f"the test vectors in JavaScript, {calls}", "/usr/bin/node", test, PENDRATSOA_CALLS=calls)
-        if self.check.has("tsc", "the example in TypeScript"):
-            shutil.copy("examples/typescript/listing.mts", user)
-            words = ["tsc", "--strict", "--target", "es2022", "--module", "node16", user / "listing.mts"]
+            env = {"PENDRATSOA_CALLS": calls}
+            self.vectors(f"the test vectors in JavaScript, {calls}", "/usr/bin/node", test, **env)
+            name = f"other field numbers in JavaScript, {calls}"
+            self.prints(name, printed, "/usr/bin/node", "numbering.mjs", folder="/trial/user", **env)
+        if self.check.has("tsc", "the examples in TypeScript"):
+            examples = [self.inside / f"pages/examples/typescript/{name}.mts" for name in ("listing", "replay")]
+            copies = [shutil.copy(example, user) for example in examples]
+            words = ["tsc", "--strict", "--target", "es2022", "--module", "node16", *copies]
             self.check.command("tsc with the types of the package", words)
             self.lists("the listing in TypeScript", "/usr/bin/node", "user/listing.mjs")
+            self.replays("TypeScript", "/usr/bin/node", "user/replay.mjs")
 
 
 def here(trial: Trial) -> None:
@@ -268,6 +359,7 @@ def here(trial: Trial) -> None:
         trial.case("install.sh", "sh", f"{folder}/install.sh")
         trial.case("install.sh again", "sh", f"{folder}/install.sh")
         trial.programs("of the tarball", "/usr/local/bin")
+        trial.dissector("/usr/local/share")
         trial.of_c()
         trial.case("install.sh --uninstall", "sh", f"{folder}/install.sh", "--uninstall")
         mine = root.folder / "usr/local/bin/journal"
@@ -293,6 +385,7 @@ def here(trial: Trial) -> None:
     def by_deb() -> None:
         trial.case("dpkg -i", "dpkg", "-i", trial.file(f"pendratsoa_{VERSION}_amd64.deb"))
         trial.programs("of the Debian package", "/usr/bin")
+        trial.dissector("/usr/share")
         trial.of_c()
         trial.case("dpkg -P", "dpkg", "-P", "pendratsoa")
 
@@ -308,12 +401,11 @@ def here(trial: Trial) -> None:
     def by_gem() -> None:
         gem = trial.file(f"pendratsoa-{VERSION}-x86_64-linux.gem")
         trial.case("gem install", "gem", "install", "--local", "--no-document", gem)
-        trial.says_compiled("Ruby", "ruby", "-rpendratsoa", "-e", "puts Pendratsoa::COMPILED")
-        trial.lists("the listing in Ruby", "ruby", "/trial/ruby/listing.rb")
+        trial.of_ruby("ruby")
         trial.vectors("the test vectors in Ruby", "ruby", "/trial/ruby/test/test_conformance.rb")
         trial.case("gem uninstall", "gem", "uninstall", "--executables", "pendratsoa")
 
-    shutil.copy("ruby/examples/listing.rb", trial.inside / "ruby")
+    take_ruby(trial)
     for name, use in (("the tarball", by_tarball), ("scripts/install.sh --from", by_script), ("the package", by_deb),
                       ("the wheel", by_wheel), ("the gem", by_gem), ("the package for Node", trial.node)):
         trial.removed(name, use)
@@ -321,8 +413,14 @@ def here(trial: Trial) -> None:
     go(trial)
 
 
+def take_ruby(trial: Trial) -> None:
+    """Takes the examples in Ruby, which are in the folder of the gem."""
+    for name in ("listing", "replay"):
+        shutil.copy(f"ruby/examples/{name}.rb", trial.inside / "ruby")
+
+
 def rust(trial: Trial) -> None:
-    """The crate for Rust, added to a user's outside with nothing set, whose program is run in the root, and its test
+    """The crate for Rust, added to a user's outside with nothing set, whose programs are run in the root, and its test
     vectors."""
     check, folder = trial.check, trial.work / "rust"
     if not (check.has("cargo", "the crate for Rust") and check.has("rustc", "the crate for Rust")):
@@ -352,10 +450,20 @@ def rust(trial: Trial) -> None:
     for words in (["init", "--quiet", "--vcs", "none", "--name", "listing"], ["add", "--quiet", "--path", folder]):
         check.command(f"cargo {words[0]}", ["cargo", *words], cwd=user, env=env)
     shutil.copy("rust/examples/listing.rs", user / "src/main.rs")
+    (user / "src/bin").mkdir()
+    shutil.copy("rust/examples/replay.rs", user / "src/bin")
+    # also the lines that the page hides, and all of them in a function, as rustdoc has it
+    program = re.sub("^#( |$)", "", uses.program_of("rust/README.md", "rust")[0], flags=re.MULTILINE)
+    (user / "src/bin/numbering.rs").write_text(f"fn main() {{\n{program}}}\n")
     check.command("cargo build", ["cargo", "build", "--quiet", *target], cwd=user, env=env)
-    built = user.joinpath("target", *target[1:], "debug/listing")
-    if check.command("the program in Rust", ["cp", built, trial.inside / "listing_rust"]):
-        trial.lists("the listing in Rust", "/trial/listing_rust")
+    inside = trial.inside / "rust"
+    inside.mkdir()
+    built = [user.joinpath("target", *target[1:], "debug", name) for name in ("listing", "replay", "numbering")]
+    if check.command("the programs in Rust", ["cp", *built, inside]):
+        trial.lists("the listing in Rust", "/trial/rust/listing")
+        trial.replays("Rust", "/trial/rust/replay")
+        # the key in the stream of the page
+        trial.prints("other field numbers in Rust", b"a\n", "/trial/rust/numbering")
 
 
 def debians_rust(trial: Trial) -> dict[str, str]:
@@ -371,8 +479,8 @@ def debians_rust(trial: Trial) -> dict[str, str]:
 
 
 def go(trial: Trial) -> None:
-    """The package for Go, required by a user's module outside with nothing set but the processor, whose program is run
-    in the root, with the test vectors."""
+    """The package for Go, required by a user's module outside with nothing set but the processor, whose programs are
+    run in the root, with the test vectors."""
     check, folder = trial.check, trial.work / "go"
     if not check.has("go", "the package for Go"):
         return
@@ -388,15 +496,23 @@ def go(trial: Trial) -> None:
     user = trial.work / "user_of_go"
     user.mkdir()
     shutil.copy("go/examples/listing/main.go", user)
+    program, printed = uses.program_of("go/README.md", "go")
+    for name, text in (("replay", pathlib.Path("go/examples/replay/main.go").read_text()), ("numbering", program)):
+        (user / name).mkdir()
+        (user / name / "main.go").write_text(text)
     module = "pendratsoa.dev/pendratsoa"
     for words in (
         ["mod", "init", "listing"],
         ["mod", "edit", "-require", f"{module}@v{VERSION}", "-replace", f"{module}={folder}"],
-        ["build", "-o", inside / "listing", "."],
+        ["build", "-o", f"{inside}/", "./..."],
     ):
         check.command(f"go {' '.join(map(str, words[:2]))}", ["go", *words], cwd=user, env=env)
     check.command("go test -c", ["go", "test", "-c", "-o", inside / "tests", "."], cwd=folder, env=env)
     trial.lists("the listing in Go", "/trial/go/listing")
+    trial.replays("Go", "/trial/go/replay")
+    write_numbering.main(inside)
+    given = (inside / "theirs").read_bytes()
+    trial.prints("other field numbers in Go", printed, "/trial/go/numbering", given=given, folder="/trial/go")
     tests = ["/trial/go/tests", "-test.v", "-test.run", "Conformance"]
     trial.vectors("the test vectors in Go", *tests, folder="/trial/go")
 
@@ -421,6 +537,7 @@ def under_qemu(trial: Trial) -> None:
         words = ["sh", folder / "install.sh"]
         check.command("install.sh for arm64", [*words, root.folder / "srv/pendratsoa"])
         trial.programs("of the tarball for arm64", "/srv/pendratsoa/bin")
+        trial.dissector("/srv/pendratsoa/share")
         trial.of_c(LD_LIBRARY_PATH="/srv/pendratsoa/lib")
         check.command("install.sh --uninstall for arm64", [*words, "--uninstall", root.folder / "srv/pendratsoa"])
 
@@ -428,6 +545,7 @@ def under_qemu(trial: Trial) -> None:
         deb = trial.inside / trial.file(f"pendratsoa_{VERSION}_arm64.deb")
         check.command("dpkg-deb --extract for arm64", ["dpkg-deb", "--extract", deb, trial.inside / "deb"])
         trial.programs("of the Debian package for arm64", "/trial/deb/usr/bin")
+        trial.dissector("/trial/deb/usr/share")
         trial.of_c(LD_LIBRARY_PATH="/trial/deb/usr/lib/aarch64-linux-gnu")
 
     def by_wheel() -> None:
@@ -442,13 +560,11 @@ def under_qemu(trial: Trial) -> None:
         ruby = "/usr/bin/ruby"
         words = ["install", "--local", "--no-document", "--install-dir", "/trial/gems", gem]
         trial.case("gem install", ruby, "/usr/bin/gem", *words)
-        says = ("-rpendratsoa", "-e", "puts Pendratsoa::COMPILED")
-        trial.says_compiled("Ruby", ruby, *says, GEM_PATH="/trial/gems")
-        trial.lists("the listing in Ruby", ruby, "/trial/ruby/listing.rb", GEM_PATH="/trial/gems")
+        trial.of_ruby(ruby, GEM_PATH="/trial/gems")
 
-    shutil.copy("ruby/examples/listing.rb", trial.inside / "ruby")
-    uses = (("the tarball", by_tarball), ("the package", by_deb), ("the wheel", by_wheel), ("the gem", by_gem))
-    for name, use in uses:
+    take_ruby(trial)
+    for name, use in (("the tarball", by_tarball), ("the package", by_deb), ("the wheel", by_wheel),
+                      ("the gem", by_gem)):
         trial.removed(name, use)
     trial.node()
     rust(trial)
@@ -559,6 +675,20 @@ def again(check: checks.Check, release: pathlib.Path) -> None:
     check.case("the library, again", (other / library).read_bytes() == library.read_bytes())
 
 
+def pages(check: checks.Check, release: pathlib.Path) -> None:
+    """The archive of pages, unpacked: its front page leads to all, and what is made here to what is there."""
+    folder = check.work / "pages"
+    folder.mkdir()
+    words = ["tar", "-xf", release / released_pages.ARCHIVE, "-C", folder, "--strip-components=1"]
+    check.command(f"tar -xf {released_pages.ARCHIVE}", words)
+    names = [released_pages.archived(name) for name in released_pages.named()]
+    absent = [name for name in names if not (folder / name).is_file()]
+    check.case("the archive has each page and each example", not absent, absent)
+    own = {folder / name for name in reference.OWN}
+    for each in sorted({*own, *((folder / name).parent for name in names if name.endswith(".html")), folder}):
+        reference.links(check, each)
+
+
 def date() -> str:
     return checks.run(["git", "log", "-1", "--format=%ct"]).out.decode().strip()
 
@@ -572,6 +702,10 @@ def main(check: checks.Check) -> None:
     if not has_arm:
         check.without("what is for arm64", f"{arm.tools}gcc with its C library")
     release, _ = made(check, None if has_arm else "x86_64")
+    listed.named(check, release, ["SHA256SUMS.minisig"])
+    listed.within(check, release)
+    pages(check, release)
+    uses.opened(check, release / "journal_view.html")
     again(check, release)
     if os.geteuid() != 0:
         check.left_out("the bare systems", "only root may make them")

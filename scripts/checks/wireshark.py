@@ -7,7 +7,9 @@ of each media type, ended and still open. Random bytes are changed as well, wher
 """
 from __future__ import annotations
 
+import collections.abc
 import dataclasses
+import functools
 import json
 import pathlib
 import random
@@ -251,8 +253,9 @@ def show_damaged(check: Check) -> None:
     check.case("some payloads are malformed", "The payload is malformed" in text)
 
 
-def write_captures(check: Check, data: bytes) -> None:
-    """Writes the captures that pages name, with these bytes, and puts the dissector into the folder for plugins."""
+def write_captures(folder: pathlib.Path, data: bytes, script: pathlib.Path = SCRIPT) -> None:
+    """Writes the captures that pages name into a home folder, with these bytes, and puts the dissector into the folder
+    for plugins there."""
     bodies = [data[at:at + 20] for at in range(0, len(data), 20)]
     captures = {
         "capture.pcap": (9080, request(f"application/vnd.restate.invocation.v{USUAL}", bodies, True)),
@@ -261,10 +264,12 @@ def write_captures(check: Check, data: bytes) -> None:
     for name, (port, segments) in captures.items():
         packets = Packets(port)
         packets.add(segments)
-        (check.work / name).write_bytes(packets.data)
-    plugins = check.work / ".local" / "lib" / "wireshark" / "plugins"
-    plugins.mkdir(parents=True)
-    (plugins / SCRIPT.name).symlink_to(SCRIPT)
+        (folder / name).write_bytes(packets.data)
+    plugins = folder / ".local" / "lib" / "wireshark" / "plugins"
+    plugins.mkdir(parents=True, exist_ok=True)
+    link = plugins / SCRIPT.name
+    link.unlink(missing_ok=True)
+    link.symlink_to(script)
 
 
 def run_shown(check: Check, command: str) -> Run:
@@ -272,13 +277,13 @@ def run_shown(check: Check, command: str) -> Run:
     return run(["sh", "-c", command], cwd=check.work, env={"PATH": "/usr/bin:/bin", "HOME": str(check.work)})
 
 
-def show_page(check: Check) -> None:
+def show_page(check: Check, run_command: collections.abc.Callable[[str], Run]) -> None:
     """The commands of docs/WIRESHARK.md print what is below them."""
     page = (ROOT / "docs" / "WIRESHARK.md").read_text(encoding="utf-8")
     found = re.findall(r"^    (tshark .*)\n\n((?:    .*\n)+)", page, re.M)
     check.case("the page has commands", len(found) == 3, found)
     for command, block in found:
-        ended = run_shown(check, command)
+        ended = run_command(command)
         # with the numbers of another description lengths are others
         wanted, lines = (
             [re.sub(r"\d+", "0", line.strip()) for line in text.splitlines()] for text in (block, ended.out.decode())
@@ -306,8 +311,8 @@ def body(check: Check) -> None:
         part(check)
     data = (ROOT / "examples" / "streams" / "replay").read_bytes()
     # the folder for plugins has the dissector from here on
-    write_captures(check, data)
-    show_page(check)
+    write_captures(check.work, data)
+    show_page(check, functools.partial(run_shown, check))
     take_streams(check, data)
 
 
