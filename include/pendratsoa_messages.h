@@ -2853,10 +2853,11 @@ static inline struct journal_writer_ journal_writer_of_(const struct journal_are
 /* Appends an entry, and copies its slice, if there is room for both. */
 static inline void journal_put_entry_(struct journal_writer_ *writer, uint64_t level, uint64_t number, uint64_t kind,
                                       uint64_t value, struct journal_slice slice) {
-    size_t size = sizeof(struct journal_field) + slice.length;
+    const size_t size = sizeof(struct journal_field) + slice.length;
     struct journal_field *field;
 
-    if (size > writer->left) {
+    /* the size of a slice that is longer than memory may wrap */
+    if (slice.length > writer->left || size > writer->left) {
         writer->lacking += size;
         return;
     }
