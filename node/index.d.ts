@@ -760,7 +760,7 @@ export class JournalError extends Error {
   /** The name of the argument, if the error is about one. */
   readonly argument: string | undefined;
 
-  /** The value of that argument. */
+  /** The value of that argument. It is not enumerable, so that no log shows it: it may hold secrets. */
   readonly value: unknown;
 }
 
@@ -906,7 +906,7 @@ export class Incomplete extends JournalError {
   /** How many bytes of that item came. */
   readonly rest: number;
 
-  /** These bytes. */
+  /** These bytes, not enumerable either. */
   readonly trailing: Uint8Array;
 
   /** Where that item begins in the stream, in bytes. */

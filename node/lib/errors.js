@@ -14,8 +14,13 @@ export class JournalError extends Error {
     super(message);
     this.call = call;
     this.argument = argument;
-    this.value = value;
+    hide(this, 'value', value);
   }
+}
+
+/** Gives an error a property that neither console.log nor JSON.stringify shows: it may hold secrets. */
+function hide(error, name, value) {
+  Object.defineProperty(error, name, { value, configurable: true, writable: true });
 }
 
 /** What errors of payloads have: the code of the type of the message, and where the message begins. */
@@ -161,7 +166,7 @@ export class Incomplete extends JournalError {
     this.typeCode = typeCode;
     this.offset = offset;
     this.rest = trailing?.length;
-    this.trailing = trailing;
+    hide(this, 'trailing', trailing);
   }
 }
 
@@ -341,11 +346,29 @@ export function wrongKind(argument, value, wanted) {
   return error;
 }
 
+/** The same of what is in a record. Only its kind is told, since it may be secret. */
+export function wrongField(name, value, wanted) {
+  const error = new TypeError(`${name} is ${kindOf(value)}, and has to be ${wanted}`);
+  error.code = 'ERR_INVALID_ARG_TYPE';
+  return error;
+}
+
 /** The error that options have a name which is not one of theirs. */
 export function unknownOption(name, names) {
   const error = new TypeError(`options has ${shown(name)}, and may only have ${names.map(shown).join(' and ')}`);
   error.code = 'ERR_INVALID_ARG_TYPE';
   return error;
+}
+
+/** The kind of a value within a message, and of bytes their number. */
+function kindOf(value) {
+  if (value === undefined || value === null || ArrayBuffer.isView(value)) {
+    return shown(value);
+  }
+  if (Array.isArray(value)) {
+    return 'an array';
+  }
+  return typeof value === 'object' ? 'an object' : `a ${typeof value}`;
 }
 
 /** A value within a message: bytes by their number, all else on a line. */

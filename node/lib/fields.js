@@ -3,7 +3,7 @@
 
 import { canonical, checked } from './calls.js';
 import { FIELD, FIELD_KINDS, FIELD_NUMBERS, UNKNOWN_SCHEMA, WRITINGS } from './declared.js';
-import { NOT_CANONICAL, fieldError, notKnown, wrongKind } from './errors.js';
+import { NOT_CANONICAL, fieldError, notKnown, wrongField, wrongKind } from './errors.js';
 import { copiedFrom, lengthOf } from './pool.js';
 import { RECORDS } from './records.js';
 import { FIRST, Room } from './room.js';
@@ -328,7 +328,7 @@ class Writer {
       throw notRecord(record, values, row);
     }
     if (isUnknown) {
-      throw wrongKind(name, values[name], `a field of ${record.name}, which has none of this name`);
+      throw wrongField(name, values[name], `a field of ${record.name}, which has none of this name`);
     }
     const end = entry === undefined ? next : Math.max(next, entries.indexOf(entry) + 1);
     this.fields(entries, next, end, values, level);
@@ -355,13 +355,13 @@ class Writer {
     if (row.shape === 'member') {
       const chosen = caseOf(row.cases, value?.case);
       if (chosen === undefined) {
-        throw wrongKind(row.name, value, `{ case, value } of ${row.cases.map(({ member }) => member).join(', ')}`);
+        throw wrongField(row.name, value, `{ case, value } of ${row.cases.map(({ member }) => member).join(', ')}`);
       }
       this.value(chosen, value.value, level);
       return;
     }
     if (!Array.isArray(value)) {
-      throw wrongKind(row.name, value, 'an array');
+      throw wrongField(row.name, value, 'an array');
     }
     for (const element of value) {
       this.value(row, element, level);
@@ -556,7 +556,7 @@ function caseOf(rows, member) {
 
 /** The error that a value is of another kind than its row. */
 function notOf(row, value, wanted) {
-  return wrongKind(row.member ?? row.name, value, wanted);
+  return wrongField(row.member ?? row.name, value, wanted);
 }
 
 /** The error that the value of a row is not a record. */

@@ -2,6 +2,7 @@
 
 import assert from 'node:assert/strict';
 import test from 'node:test';
+import { inspect } from 'node:util';
 
 import * as pendratsoa from 'pendratsoa';
 
@@ -424,6 +425,25 @@ test('what does not exist is named', () => {
     [() => new Message(4, 0, none), 'Message: unknown protocol version 4 (5 to 9)'],
   ]) {
     assert.throws(call, { name: 'Unknown', message });
+  }
+});
+
+test('what is logged of an error', () => {
+  const given = Buffer.from('\nSECRET');
+  const stream = new pendratsoa.Stream();
+  stream.feed(given);
+  for (const [call, name] of [
+    [() => pendratsoa.canonical('Value', given), 'value'],
+    [() => pendratsoa.fromJson('Value', '["SECRET"]'), 'value'],
+    [() => stream.finish(), 'trailing'],
+  ]) {
+    assert.throws(call, (error) => {
+      assert.ok(Buffer.from(error[name]).includes('SECRET'));
+      for (const logged of [inspect(error), JSON.stringify(error), String(error)]) {
+        assert.doesNotMatch(logged, /SECRET|53 45 43|83, ?69/);
+      }
+      return true;
+    });
   }
 });
 

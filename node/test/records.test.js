@@ -150,6 +150,21 @@ test('what is not a record', () => {
   });
 });
 
+test('an error of a record does not tell its values', () => {
+  for (const [record, message] of [
+    [{ key: 'SECRET' }, 'key is a string, and has to be a Uint8Array'],
+    [{ key: 1 }, 'key is a number, and has to be a Uint8Array'],
+    [{ key: ['SECRET'] }, 'key is an array, and has to be a Uint8Array'],
+    [{ value: { content: { secret: 'SECRET' } } }, 'content is an object, and has to be a Uint8Array'],
+    [{ value: 'SECRET' }, 'value is a string, and has to be an object of Value'],
+    [{ value: null }, 'value is null, and has to be an object of Value'],
+  ]) {
+    assert.throws(() => Message.of('SetStateCommand', record), { name: 'TypeError', message });
+  }
+  const message = 'keys is a string, and has to be a field of SetStateCommandMessage, which has none of this name';
+  assert.throws(() => Message.of('SetStateCommand', { keys: 'SECRET' }), { name: 'TypeError', message });
+});
+
 test('objects of a class that have fields, and of no class', () => {
   class Own {
     content = hex('01');
