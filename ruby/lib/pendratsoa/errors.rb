@@ -77,7 +77,7 @@ module Pendratsoa
 
   # A field of a record cannot be encoded.
   class FieldError < Error
-    # Why, as one of FIELD_REASONS, and what leads to the field, as "headers[2].key".
+    # Why, as one of FIELD_REASONS, and what leads to the field, as "value.content".
     attr_reader :reason, :path
 
     def initialize(message = nil, reason: nil, path: "", **details)
@@ -128,7 +128,7 @@ module Pendratsoa
   # A JSON text means no value of its schema.
   class JsonError < Error
     # Why, as one of JSON_REASONS; where the text stops being JSON, in bytes, which is nil if it is JSON; and then what
-    # leads to the rejected value, as "headers[2].key".
+    # leads to the rejected value, as "value.content".
     attr_reader :reason, :offset, :path
 
     def initialize(message = nil, reason: nil, offset: nil, path: "", **details)

@@ -40,7 +40,7 @@ module Pendratsoa
     end
     private_class_method :read
 
-    # What leads to the last entry of a table, as "headers[2].key".
+    # What leads to the last entry of a table, as "value.content".
     def self.path(record, numbers)
       records = [record]
       counts = [Hash.new(0)]
@@ -62,6 +62,7 @@ module Pendratsoa
     end
 
     # Reads records from the entries of a payload.
+    # @private
     class Reader
       def initialize(numbers, bytes)
         @numbers = numbers
@@ -111,6 +112,7 @@ module Pendratsoa
     end
 
     # The table of a record, and the bytes that its entries are places in.
+    # @private
     class Writer
       def initialize(record)
         @record = record
