@@ -1,6 +1,7 @@
 // The errors, and which of them a negative number of the library is.
 
 import { ERRORS, FIRST_VERSION, LAST_VERSION } from './declared.js';
+import { kindOf } from './module_memory.js';
 import { SCHEMA_NAMES } from './protocol.js';
 import { texts } from './text.js';
 
@@ -341,34 +342,29 @@ export function incomplete(call, { name, typeCode, offset, trailing }) {
 
 /** The error that an argument is of another kind than it has to be. */
 export function wrongKind(argument, value, wanted) {
-  const error = new TypeError(`${argument} is ${shown(value)}, and has to be ${wanted}`);
-  error.code = 'ERR_INVALID_ARG_TYPE';
-  return error;
+  return invalid(`${argument} is ${shown(value)}, and has to be ${wanted}`);
 }
 
 /** The same of what is in a record. Only its kind is told, since it may be secret. */
 export function wrongField(name, value, wanted) {
-  const error = new TypeError(`${name} is ${kindOf(value)}, and has to be ${wanted}`);
-  error.code = 'ERR_INVALID_ARG_TYPE';
-  return error;
+  return invalid(`${name} is ${heldKind(value)}, and has to be ${wanted}`);
 }
 
 /** The error that options have a name which is not one of theirs. */
 export function unknownOption(name, names) {
-  const error = new TypeError(`options has ${shown(name)}, and may only have ${names.map(shown).join(' and ')}`);
-  error.code = 'ERR_INVALID_ARG_TYPE';
-  return error;
+  return invalid(`options has ${shown(name)}, and may only have ${names.map(shown).join(' and ')}`);
 }
 
-/** The kind of a value within a message, and of bytes their number. */
-function kindOf(value) {
-  if (value === undefined || value === null || ArrayBuffer.isView(value)) {
+function invalid(message) {
+  return Object.assign(new TypeError(message), { code: 'ERR_INVALID_ARG_TYPE' });
+}
+
+/** The kind of a value of a record, and of bytes their number. */
+function heldKind(value) {
+  if (ArrayBuffer.isView(value)) {
     return shown(value);
   }
-  if (Array.isArray(value)) {
-    return 'an array';
-  }
-  return typeof value === 'object' ? 'an object' : `a ${typeof value}`;
+  return Array.isArray(value) ? 'an array' : kindOf(value);
 }
 
 /** A value within a message: bytes by their number, all else on a line. */

@@ -214,7 +214,8 @@ export function flagIn(name, value) {
   }
 }
 
-function kindOf(value) {
+/** The kind of a value within a message. */
+export function kindOf(value) {
   if (value === undefined || value === null) {
     return String(value);
   }

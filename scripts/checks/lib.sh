@@ -77,8 +77,8 @@ case_of() {
   outcome "$name" $ended
 }
 
-# within SECONDS COMMAND..: a command that has so many seconds; it stays in the check's process group, which is ended as
-# a whole
+# within SECONDS COMMAND..: ends a command after so many seconds. The command stays in the process group of the check,
+# so that a signal to the group reaches it.
 within() {
   timeout --foreground "$@"
 }
