@@ -297,6 +297,9 @@ fn made_of<T: Drop>(
     match made {
         Ok(made) => Ok(made),
         Err(SchemaError::Descriptor(error)) => Err(fail_descriptors(call, path, error)),
+        Err(error @ SchemaError::NoFields) => {
+            Err(fail(call.rt, call.name, format_args!("{path}: {error}"), INVALID))
+        }
         Err(error) => Err(fail_schema(call, given.0, given.1, error)),
     }
 }

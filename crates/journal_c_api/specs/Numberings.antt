@@ -34,11 +34,11 @@ abbrev pub direction_of : ℕ → Option Direction
 direction_of number =
     if nat_eq number 0 then Some Reading else (if nat_eq number 1 then Some Writing else None)
 
--- Entries are all those of the numbering of what is read of a set, with some renames, in their order.
+-- Entries are all those of the numbering of what is read of a set, with some renames, in their order. There is one.
 abbrev pub IsNumberingOf : Direction → List ℕ → List Renumbering → Type 0
 IsNumberingOf direction set entries =
     (found : DescriptorSet) × IsSetOf set found × (renames : List Rename)
-    × (numbering_entries found renames direction ≡ Ok entries)
+    × (numbering_entries found renames direction ≡ Ok entries) × (1 ≤ length entries)
 
 -- The entries of the numbering of a set, which is then a descriptor set: each is of a field of the protocol.
 abbrev pub FindsNumbering : {Z : Type 0} → Direction → List ℕ → Result (Vec Renumbering Z) CallError → Type 0

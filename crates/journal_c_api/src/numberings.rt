@@ -413,6 +413,7 @@ fn why_not(
 ) -> Result<Rejection, AllocError> {
     match error {
         SchemaError::Descriptor(error) => set_rejection(alloc, error),
+        SchemaError::NoFields => Ok(Rejection::Set(format!(in alloc; "{error}")?)),
         SchemaError::Rename(index, fault) => match renames.get(index) {
             Some(rename) => {
                 let (theirs, ours) = (rename.theirs, rename.ours);

@@ -1,5 +1,5 @@
 -- The entries of the numbering of a set: by schemas, by the rows of what is written, and by the fields of a row.
-use Rattle.std.specs.Prelude.{◌≡◌, ℕ, ◌+◌, ◌==◌, min, if◌then◌else◌, List, [], ◌∷◌, ◌++◌, map}
+use Rattle.std.specs.Prelude.{◌≡◌, ◌≤◌, ℕ, ◌+◌, ◌==◌, length, min, if◌then◌else◌, List, [], ◌∷◌, ◌++◌, map}
 use Rattle.std.specs.Prelude.{Option, Some, None, Result, Ok, Err, Vec, slice_get}
 use Rattle.std.specs.List.{cons_option}
 use Rattle.shared_core_wire.specs.Schema.{numbers, Kind}
@@ -160,11 +160,13 @@ abbrev pub numbering_entries : DescriptorSet → List Rename → Direction → R
 numbering_entries set renames direction = entries_in set direction (named_of set renames)
 
 -- The result of a numbering of a set that should have these entries. An error is of the table of the set, or else of
--- the wrong rename, or an allocation that failed.
+-- the wrong rename, or that there are none, or an allocation that failed.
 abbrev pub IsNumbering : {Z : Type 0} → DescriptorSet → Result (List Renumbering) (ℕ × RenameFault)
     → Result (Vec Renumbering Z) SchemaError → Type 0
-IsNumbering set wanted (Ok entries) = HasTable set × (wanted ≡ Ok entries.items)
+IsNumbering set wanted (Ok entries) =
+    HasTable set × (wanted ≡ Ok entries.items) × (1 ≤ length entries.items)
 IsNumbering set wanted (Err (error.Rename index fault)) = HasTable set × (wanted ≡ Err (index, fault))
 IsNumbering set wanted (Err (error.Descriptor why)) = IsTableError set why
+IsNumbering set wanted (Err error.NoFields) = HasTable set × (wanted ≡ Ok [])
 IsNumbering set wanted (Err error.OutOfMemory) = Unit {0}
 IsNumbering set wanted (Err error.Output) = ⊥

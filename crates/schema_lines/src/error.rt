@@ -14,6 +14,8 @@ pub enum SchemaError {
     Descriptor(DescriptorError),
     /// Something is wrong with the rename of this index.
     Rename(usize, RenameFault),
+    /// No field of the set is one of the protocol's, so that all fields of all payloads would be left out.
+    NoFields,
     /// A write failed.
     Output,
     OutOfMemory,
@@ -24,6 +26,7 @@ impl fmt::Display for SchemaError {
         match self {
             SchemaError::Descriptor(error) => write!(f, "{error}"),
             SchemaError::Rename(_, fault) => write!(f, "{fault}"),
+            SchemaError::NoFields => write!(f, "no field of the protocol's messages"),
             SchemaError::Output => write!(f, "output failed"),
             SchemaError::OutOfMemory => write!(f, "out of memory"),
         }

@@ -70,7 +70,7 @@ impl Match {
 /// The table by which payloads are written again from the numbers of a set to the protocol's, or back. A schema has
 /// entries for those of its fields that `write_schema` calls the same or renumbered, in the order in which the
 /// canonical payload that is written has them. Its message is the one that `schemas_of` finds. Errors: those of
-/// `write_schema`, except `Output`.
+/// `write_schema`, except `Output`; `NoFields` if there would be no entry.
 pub fn numbering_of(
     alloc: Global,
     set: &DescriptorSet,
@@ -83,6 +83,9 @@ pub fn numbering_of(
     table_of(alloc, set)?;
     let pairs = Pairs::of(alloc, set, renames)?;
     let entries = entries_of(alloc, set, &pairs, direction)?;
+    if entries.is_empty() {
+        return Err(SchemaError::NoFields);
+    }
     Ok(entries)
 }
 
