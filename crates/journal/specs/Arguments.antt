@@ -6,7 +6,7 @@ use Rattle.clap.specs.Matches.{first_value, matched_of, one_text, raw_values}
 use Rattle.clap.specs.declared.parser.matches.Found.{Found}
 use Rattle.command_line.specs.Colors.{IsColorOf}
 use Rattle.command_line.specs.Input.{input_value}
-use Rattle.schema_lines.specs.Renames.{names_of, rename_of}
+use Rattle.schema_lines.specs.Renames.{rename_of, said_names}
 use Rattle.schema_lines.specs.declared.numbering.Direction.{Direction}
 use Rattle.schema_lines.specs.declared.numbering.Direction.TheVariants.{Reading, Writing}
 use Rattle.schema_lines.specs.declared.renames.Rename.{Rename}
@@ -24,10 +24,6 @@ abbrev pub IsFlagOf : Found → List ℕ → Bool → Type 0
 IsFlagOf found name is-set =
     (one_text found name ≡ Some (codes "true") → is-set ≡ true)
     × (one_text found name ≡ Some (codes "false") → is-set ≡ false) × (one_text found name ≡ None → is-set ≡ false)
-
--- The names that renames have.
-abbrev pub said_names : List Rename → List (Option (List ℕ × List ℕ))
-said_names renames = map (λ rename. Some (names_of rename)) renames
 
 -- They are those of the option `--rename`, in its order, each of which has the form of one.
 abbrev pub AreRenamesOf : Found → List Rename → Type 0

@@ -3,8 +3,8 @@
 ghost use Rattle.std.specs.Prelude.{◌≡◌, ◌≢◌, [], None, Some, IfOk, IsNone, codes, map, option_copied, option_map};
 ghost use Rattle.std.specs.Prelude.{string_bytes};
 ghost use Rattle.clap.specs.Matches.{found_of};
-ghost use Rattle.schema_lines.specs.Renames.{names_of, rename_of};
-ghost use Rattle.journal.specs.Arguments.{said_names, AreRenamesOf, IsSchemaOf};
+ghost use Rattle.schema_lines.specs.Renames.{names_of, rename_of, said_names};
+ghost use Rattle.journal.specs.Arguments.{AreRenamesOf, IsSchemaOf};
 ghost use Rattle.journal.specs.Schemas.{IsPathBy, IsSetPath};
 
 use crate::call::{Call, INVALID};

@@ -1,23 +1,31 @@
 -- The results of the calls on payloads at other field numbers.
 use Rattle.std.specs.Prelude.{◌≡◌, ◌≢◌, ℕ, ◌<◌, ◌≤◌, ◌^◌, List, [], ◌∷◌, ◌++◌, take, drop, length, Vec, All}
-use Rattle.std.specs.Prelude.{true, false, Option, Some, None, nat_eq, if◌then◌else◌}
+use Rattle.std.specs.Prelude.{true, false, map, Option, Some, None, nat_eq, if◌then◌else◌}
 use Rattle.std.specs.Prelude.{Result, Ok, Err}
+use Rattle.std.specs.Str.Lines.{lines}
 use Rattle.shared_core_base.specs.declared.version.Version.{Version}
 use Rattle.dump_lines.specs.declared.options.Options.{Options}
 use Rattle.dump_lines.specs.Lines.{line_of_in, rest_line}
+use Rattle.dump_lines.specs.Other.{reading_by}
 use Rattle.dump_lines.specs.Reading.{Reading as AnyReading}
+use Rattle.shared_core_wire.specs.Schema.{table_of}
 use Rattle.shared_core_stream.specs.declared.encoding.item.Item.{Item}
 use Rattle.shared_core_stream.specs.Items.{SplitsInto}
 use Rattle.stream_lines.specs.Printing.{all_lines, first_trouble, Begins}
 use Rattle.stream_renumbering.specs.Streams.{item_bytes, item_trouble, IsLong}
 use Rattle.descriptor_set.specs.Descriptors.{IsDescriptorSet}
 use Rattle.descriptor_set.specs.Sets.{IsSetOf}
+use Rattle.descriptor_set.specs.TableNames.{set_names}
+use Rattle.descriptor_set.specs.Tables as tables
 use Rattle.descriptor_set.specs.declared.set.DescriptorSet.{DescriptorSet}
 use Rattle.schema_lines.specs.declared.numbering.Direction.{Direction}
 use Rattle.schema_lines.specs.declared.numbering.Direction.TheVariants.{Reading, Writing}
 use Rattle.schema_lines.specs.declared.renames.Rename.{Rename}
 use Rattle.schema_lines.specs.Entries.{numbering_entries}
+use Rattle.schema_lines.specs.Named.{named_of}
 use Rattle.schema_lines.specs.Numberings.{IsOurs}
+use Rattle.schema_lines.specs.Pairs.{schemas_in}
+use Rattle.schema_lines.specs.Renames.{rename_of, said_names}
 use Rattle.shared_core_renumber.specs.declared.entries.Renumbering.{Renumbering}
 use Rattle.shared_core_renumber.specs.Payloads.{IsRenumberable, IsRenumbered, IsRenumberedTooLong}
 use Rattle.journal_c_api.specs.declared.outcome.CallError.{CallError}
@@ -34,32 +42,37 @@ abbrev pub direction_of : ℕ → Option Direction
 direction_of number =
     if nat_eq number 0 then Some Reading else (if nat_eq number 1 then Some Writing else None)
 
--- Entries are all those of the numbering of what is read of a set, with some renames, in their order. There is one.
-abbrev pub IsNumberingOf : Direction → List ℕ → List Renumbering → Type 0
-IsNumberingOf direction set entries =
-    (found : DescriptorSet) × IsSetOf set found × (renames : List Rename)
+-- Renames are those that the lines of a text say, one a line, in their order.
+abbrev pub AreRenamesOf : List ℕ → List Rename → Type 0
+AreRenamesOf text renames = said_names renames ≡ map rename_of (lines text)
+
+-- Entries are all those of the numbering of what is read of a set, with the renames of a text, in their order. There is
+-- at least one.
+abbrev pub IsNumberingOf : Direction → List ℕ → List ℕ → List Renumbering → Type 0
+IsNumberingOf direction set text entries =
+    (found : DescriptorSet) × IsSetOf set found × (renames : List Rename) × AreRenamesOf text renames
     × (numbering_entries found renames direction ≡ Ok entries) × (1 ≤ length entries)
 
 -- The entries of the numbering of a set, which is then a descriptor set: each is of a field of the protocol.
-abbrev pub FindsNumbering : {Z : Type 0} → Direction → List ℕ → Result (Vec Renumbering Z) CallError → Type 0
-FindsNumbering direction set (Ok entries) =
-    IsDescriptorSet set × All (IsOurs direction) entries.items × IsNumberingOf direction set entries.items
-FindsNumbering direction set (Err Malformed) = Unit {0}
-FindsNumbering direction set (Err OutOfMemory) = Unit {0}
-FindsNumbering direction set (Err error) = ⊥
+abbrev pub FindsNumbering : {Z : Type 0} → Direction → List ℕ → List ℕ → Result (Vec Renumbering Z) CallError → Type 0
+FindsNumbering direction set text (Ok entries) =
+    IsDescriptorSet set × All (IsOurs direction) entries.items × IsNumberingOf direction set text entries.items
+FindsNumbering direction set text (Err Malformed) = Unit {0}
+FindsNumbering direction set text (Err OutOfMemory) = Unit {0}
+FindsNumbering direction set text (Err error) = ⊥
 
 -- The result of journal_numbering, and what it writes: the first entries of a numbering, as many as there is room for,
 -- each of a field of the protocol. UnknownOption if the number denotes no direction; each error leaves the slice
 -- unchanged.
-abbrev pub WritesNumbering : ℕ → List ℕ → List Renumbering → List Renumbering → Result ℕ CallError → Type 0
-WritesNumbering number set old new (Ok count) =
+abbrev pub WritesNumbering : ℕ → List ℕ → List ℕ → List Renumbering → List Renumbering → Result ℕ CallError → Type 0
+WritesNumbering number set text old new (Ok count) =
     (direction : Direction) × (direction_of number ≡ Some direction) × IsDescriptorSet set
-    × (entries : List Renumbering) × All (IsOurs direction) entries × IsNumberingOf direction set entries
+    × (entries : List Renumbering) × All (IsOurs direction) entries × IsNumberingOf direction set text entries
     × (count ≡ length entries) × (new ≡ front_over entries old)
-WritesNumbering number set old new (Err UnknownOption) = (direction_of number ≡ None) × (new ≡ old)
-WritesNumbering number set old new (Err Malformed) = (direction_of number ≢ None) × (new ≡ old)
-WritesNumbering number set old new (Err OutOfMemory) = (direction_of number ≢ None) × (new ≡ old)
-WritesNumbering number set old new (Err error) = ⊥
+WritesNumbering number set text old new (Err UnknownOption) = (direction_of number ≡ None) × (new ≡ old)
+WritesNumbering number set text old new (Err Malformed) = (direction_of number ≢ None) × (new ≡ old)
+WritesNumbering number set text old new (Err OutOfMemory) = (direction_of number ≢ None) × (new ≡ old)
+WritesNumbering number set text old new (Err error) = ⊥
 
 -- The result of journal_numbering_text, and what it writes: one number, 0 only of a descriptor set, and the bytes of a
 -- text. NoRoom if there is no room for the number; each error leaves both slices unchanged.
@@ -126,20 +139,31 @@ IsDumpBy reading options stream (Err OutOfMemory) = Unit {0}
 IsDumpBy reading options stream (Err error) = ⊥
 
 -- The dump of all items of a stream by some messages, at a version.
-abbrev pub ReturnsLines : List ℕ → Result (List ℕ) CallError → Version → Type 0
-ReturnsLines stream (Ok bytes) version =
-    (reading : AnyReading) × (options : Options) × IsWhole version options × IsDumpBy reading options stream (Ok bytes)
-ReturnsLines stream (Err TooLong) version = Unit {0}
-ReturnsLines stream (Err OutOfMemory) version = Unit {0}
-ReturnsLines stream (Err error) version = ⊥
+abbrev pub ReturnsLines : AnyReading → List ℕ → Result (List ℕ) CallError → Version → Type 0
+ReturnsLines reading stream (Ok bytes) version =
+    (options : Options) × IsWhole version options × IsDumpBy reading options stream (Ok bytes)
+ReturnsLines reading stream (Err TooLong) version = Unit {0}
+ReturnsLines reading stream (Err OutOfMemory) version = Unit {0}
+ReturnsLines reading stream (Err error) version = ⊥
 
--- The same by the messages of a set. Malformed if no numbering comes of the set and the renames.
-abbrev pub ReturnsDumpAt : List ℕ → List ℕ → Result (List ℕ) CallError → Version → Type 0
-ReturnsDumpAt set stream (Err Malformed) version = Unit {0}
-ReturnsDumpAt set stream (Ok bytes) version = IsDescriptorSet set × ReturnsLines stream (Ok bytes) version
-ReturnsDumpAt set stream outcome version = ReturnsLines stream outcome version
+-- Payloads are read by the messages of a set with the renames of a text, at the set's numbers and by its names.
+abbrev pub IsReadingOf : List ℕ → List ℕ → AnyReading → Type 0
+IsReadingOf set text reading =
+    (found : DescriptorSet) × IsSetOf set found × (renames : List Rename) × AreRenamesOf text renames
+    × (schemas : List (Option ℕ)) × (schemas_in found (named_of found renames) ≡ Ok schemas)
+    × (reading ≡ reading_by (table_of (tables.schemas_of found)) (set_names found) schemas)
+
+-- The dump by the messages of a set. Malformed if no numbering comes of the set and the renames.
+abbrev pub ReturnsDumpAt : List ℕ → List ℕ → List ℕ → Result (List ℕ) CallError → Version → Type 0
+ReturnsDumpAt set text stream (Ok bytes) version =
+    IsDescriptorSet set
+    × (reading : AnyReading) × IsReadingOf set text reading × ReturnsLines reading stream (Ok bytes) version
+ReturnsDumpAt set text stream (Err Malformed) version = Unit {0}
+ReturnsDumpAt set text stream (Err TooLong) version = Unit {0}
+ReturnsDumpAt set text stream (Err OutOfMemory) version = Unit {0}
+ReturnsDumpAt set text stream (Err error) version = ⊥
 
 -- The result of journal_numbering_dump: at the version that a number denotes.
-abbrev pub ReturnsDump : ℕ → List ℕ → List ℕ → Result (List ℕ) CallError → Type 0
-ReturnsDump number set stream outcome =
-    AtVersion (supported_version number) outcome (ReturnsDumpAt set stream outcome)
+abbrev pub ReturnsDump : ℕ → List ℕ → List ℕ → List ℕ → Result (List ℕ) CallError → Type 0
+ReturnsDump number set text stream outcome =
+    AtVersion (supported_version number) outcome (ReturnsDumpAt set text stream outcome)

@@ -1,13 +1,15 @@
 //! Payloads at other field numbers: those of a descriptor set.
 
-ghost use Rattle.std.specs.Prelude.{◌≡◌, ◌≤◌, All, IfOk};
+ghost use Rattle.std.specs.Prelude.{◌≡◌, ◌≤◌, All, IfOk, Some};
 ghost use Rattle.shared_core_base.specs.Version.{version_number};
+ghost use Rattle.dump_lines.specs.Other.{reading_by};
 ghost use Rattle.schema_lines.specs.Numberings.{IsOurs};
+ghost use Rattle.schema_lines.specs.Renames.{names_of, rename_of};
 ghost use Rattle.descriptor_set.specs.Descriptors.{IsDescriptorSet};
 ghost use Rattle.descriptor_set.specs.Sets.{IsSetOf};
 ghost use Rattle.journal_c_api.specs.Numberings.{direction_of, front_over, FindsNumbering, IsDumpBy, ReturnsDump};
 ghost use Rattle.journal_c_api.specs.Numberings.{ReturnsItems, ReturnsLines, ReturnsRenumbered, ReturnsStream};
-ghost use Rattle.journal_c_api.specs.Numberings.{IsNumberingOf, WritesList};
+ghost use Rattle.journal_c_api.specs.Numberings.{AreRenamesOf, IsNumberingOf, IsReadingOf, WritesList};
 ghost use Rattle.journal_c_api.specs.Numberings.{WritesNumbering};
 ghost use Rattle.journal_c_api.specs.Outcomes.{Writes, bytes_of};
 
@@ -16,7 +18,9 @@ use descriptor_set::{DescriptorError, DescriptorSet, named_table_of, read_set};
 use dump_lines::{Dumping, MessageTable, Options as DumpOptions, OtherTable};
 use schema_lines::{Direction, Rename, SchemaError, numbering_of, schemas_of, write_schema};
 use shared_core::version::Version;
+use shared_core_codec::any_table::Schemas;
 use shared_core_codec::loaded_table::LoadedSchemas;
+use shared_core_json::named_schemas::NamedSchemas;
 use shared_core_json::named_table::NamedTable;
 pub use shared_core_renumber::Renumbering;
 use shared_core_renumber::{RenumberError, renumbered};
@@ -71,7 +75,7 @@ pub fn write_numbering(
     renames: &[u8],
     table: &mut [Renumbering],
 ) -> Result<usize, CallError>
-    ensures { WritesNumbering direction set.now table.old table.new result }
+    ensures { WritesNumbering direction set.now renames.now table.old table.new result }
 {
     let direction = direction_of(direction).ok_or(CallError::UnknownOption)?;
     let entries = entries_of(alloc, set, renames, direction)?;
@@ -97,7 +101,7 @@ fn entries_of(
     renames: &[u8],
     direction: Direction,
 ) -> Result<Vec<Renumbering>, CallError>
-    ensures { FindsNumbering direction set.now result }
+    ensures { FindsNumbering direction set.now renames.now result }
 {
     match numbering(alloc, set, renames, direction) {
         Ok(entries) => Ok(entries),
@@ -237,12 +241,13 @@ pub fn write_dump(
     stream: &[u8],
     out: &mut [u8],
 ) -> Result<usize, CallError>
-    ensures { Writes (ReturnsDump version set.now stream.now) out.old out.new result }
+    ensures { Writes (ReturnsDump version set.now renames.now stream.now) out.old out.new result }
 {
     write_outcome(dump_of(alloc, version, set, renames, stream), out)
 }
 
 /// The dump of a stream by the messages of a set, at the version that a number denotes.
+#[tactic(auto, using(crate::proofs::Dumps::dump_by_set))]
 fn dump_of(
     alloc: Global,
     version: u32,
@@ -250,7 +255,7 @@ fn dump_of(
     renames: &[u8],
     stream: &[u8],
 ) -> Result<Vec<u8>, CallError>
-    ensures { ReturnsDump version set.now stream.now (bytes_of result) }
+    ensures { ReturnsDump version set.now renames.now stream.now (bytes_of result) }
 {
     let version = version_of(version)?;
     match messages_of(alloc, set, renames) {
@@ -269,7 +274,10 @@ struct Messages {
 
 /// The messages of a set, or why there are none.
 fn messages_of(alloc: Global, set: &[u8], renames: &[u8]) -> Result<Messages, Rejection>
-    ensures { IfOk result (λ _. IsDescriptorSet set.now) }
+    ensures set { IfOk result (λ _. IsDescriptorSet set.now) }
+    ensures reading { IfOk result (λ messages. IsReadingOf set.now renames.now (reading_by
+        (⟦<NamedTable<LoadedSchemas> as Schemas>⟧.table messages.table)
+        (⟦<NamedTable<LoadedSchemas> as NamedSchemas>⟧.names messages.table) messages.schemas.items)) }
 {
     let lines = lines_of(alloc, renames)?;
     let set = descriptors(alloc, set)?;
@@ -292,7 +300,9 @@ fn lines_by(
     stream: &[u8],
 ) -> Result<Vec<u8>, CallError>
     requires { 5 ≤ version_number version }
-    ensures { ReturnsLines stream.now (bytes_of result) version }
+    ensures { ReturnsLines (reading_by (⟦<NamedTable<LoadedSchemas> as Schemas>⟧.table messages.now.table)
+        (⟦<NamedTable<LoadedSchemas> as NamedSchemas>⟧.names messages.now.table) messages.now.schemas.items)
+        stream.now (bytes_of result) version }
 {
     let options = DumpOptions {
         version,
@@ -345,7 +355,7 @@ fn numbering(
 ) -> Result<Vec<Renumbering>, Rejection>
     ensures set { IfOk result (λ _. IsDescriptorSet set.now) }
     ensures ours { IfOk result (λ entries. All (IsOurs direction) entries.items) }
-    ensures exact { IfOk result (λ entries. IsNumberingOf direction set.now entries.items) }
+    ensures exact { IfOk result (λ entries. IsNumberingOf direction set.now renames.now entries.items) }
 {
     let lines = lines_of(alloc, renames)?;
     let set = descriptors(alloc, set)?;
@@ -380,21 +390,28 @@ fn descriptors(alloc: Global, set: &[u8]) -> Result<DescriptorSet, Rejection>
 }
 
 /// The renames of lines.
-fn lines_of<'a>(alloc: Global, renames: &'a [u8]) -> Result<Vec<Rename<'a>>, Rejection> {
+fn lines_of<'a>(alloc: Global, renames: &'a [u8]) -> Result<Vec<Rename<'a>>, Rejection>
+    ensures { IfOk result (λ said. AreRenamesOf renames.now said.items) }
+{
     let Ok(text) = str::from_utf8(renames) else {
         return Err(Rejection::Rename(String::from_str(alloc, "the renames are not UTF-8")?));
     };
-    let mut lines = Vec::new(alloc);
+    let mut said = Vec::new(alloc);
     for line in text.lines() {
-        match Rename::of(line) {
-            Some(rename) => lines.push(rename)?,
-            None => {
-                let text = format!(in alloc; "{line} is not THEIRS=OURS")?;
-                return Err(Rejection::Rename(text));
-            }
-        }
+        let rename = rename_in(alloc, line)?;
+        said.push(rename)?;
     }
-    Ok(lines)
+    Ok(said)
+}
+
+/// The rename that a line says.
+fn rename_in<'a>(alloc: Global, line: &'a str) -> Result<Rename<'a>, Rejection>
+    ensures { IfOk result (λ rename. Some (names_of rename) ≡ rename_of line.now) }
+{
+    match Rename::of(line) {
+        Some(rename) => Ok(rename),
+        None => Err(Rejection::Rename(format!(in alloc; "{line} is not THEIRS=OURS")?)),
+    }
 }
 
 /// What is said of a set that no numbering comes of.
@@ -420,7 +437,7 @@ fn why_not(
                 let text = format!(in alloc; "{theirs}={ours}: {fault}")?;
                 Ok(Rejection::Rename(text))
             }
-            None => Ok(Rejection::OutOfMemory),
+            None => Ok(Rejection::Rename(format!(in alloc; "{fault}")?)),
         },
         // writing to memory fails only for want of it
         SchemaError::Output | SchemaError::OutOfMemory => Ok(Rejection::OutOfMemory),

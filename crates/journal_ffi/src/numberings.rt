@@ -25,7 +25,7 @@ pub extern "C" fn journal_numbering(
     renames: &[u8],
     renumberings: &mut [Renumbering],
 ) -> i64
-    ensures { Returns result (WritesNumbering direction set.now renumberings.old renumberings.new) }
+    ensures { Returns result (WritesNumbering direction set.now renames.now renumberings.old renumberings.new) }
 {
     outcome_of(numberings::write_numbering(alloc, direction, set, renames, renumberings))
 }
@@ -103,7 +103,7 @@ pub extern "C" fn journal_numbering_dump(
     stream: &[u8],
     out: &mut [u8],
 ) -> i64
-    ensures { Returns result (Writes (ReturnsDump version set.now stream.now) out.old out.new) }
+    ensures { Returns result (Writes (ReturnsDump version set.now renames.now stream.now) out.old out.new) }
 {
     outcome_of(numberings::write_dump(alloc, version, set, renames, stream, out))
 }

@@ -1,5 +1,5 @@
 -- A name there and a name here, in one word.
-use Rattle.std.specs.Prelude.{◌≡◌, ℕ, ◌==◌, ◌||◌, List, ◌∷◌, ◌++◌, length, nat_lt, true, if◌then◌else◌}
+use Rattle.std.specs.Prelude.{◌≡◌, ℕ, ◌==◌, ◌||◌, List, ◌∷◌, ◌++◌, length, map, nat_lt, true, if◌then◌else◌}
 use Rattle.std.specs.Prelude.{Option, Some, None}
 use Rattle.std.specs.List.{after_first, before_first, position_or_len}
 use Rattle.schema_lines.specs.declared.renames.Rename.{Rename}
@@ -13,6 +13,10 @@ pub record IsRename (word : List ℕ) (rename : Rename) : Type 0 where
 -- The name there and the name here.
 abbrev pub names_of : Rename → List ℕ × List ℕ
 names_of rename = (rename.theirs.now, rename.ours.now)
+
+-- The names of renames, as words say them: `map rename_of` of words that are renames.
+abbrev pub said_names : List Rename → List (Option (List ℕ × List ℕ))
+said_names renames = map (λ rename. Some (names_of rename)) renames
 
 -- Two names, if neither is empty.
 abbrev pub both_names : List ℕ → List ℕ → Option (List ℕ × List ℕ)

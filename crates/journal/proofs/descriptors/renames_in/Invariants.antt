@@ -1,6 +1,5 @@
 use Rattle.std.proofs.Common.{◌≡◌, ◌++◌, drop, map}
-use Rattle.schema_lines.specs.Renames.{rename_of}
-use Rattle.journal.specs.Arguments.{said_names}
+use Rattle.schema_lines.specs.Renames.{rename_of, said_names}
 use Rattle.journal.proofs.descriptors.renames_in.Given as goal
 
 abbrev pub invariant-loop-word : goal.invariant-loop-word
