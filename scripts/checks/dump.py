@@ -94,6 +94,8 @@ MADE = {
     "replay.gz": COMPRESSED,
     "replay.base64": BASE64,
     "replay.hex": DIGITS,
+    "replay.0x": b"0x" + DIGITS,
+    "replay.bytea": b"\\x" + DIGITS,
     "seven": BASE64[:7],
     "colons": b"00:00:00:00",
 }
@@ -189,6 +191,8 @@ CASES: tuple[tuple[str, str, *tuple[str, ...]], ...] = (
     ("--type Start replay.gz", "", *no_journal(len(COMPRESSED)), IS_GZIP, ANYWAY),
     ("--type Start replay.base64", "", *no_journal(len(BASE64)), IS_BASE64, ANYWAY),
     ("--type Start replay.hex", "", *no_journal(len(DIGITS)), IS_HEX, ANYWAY),
+    ("--type Start replay.0x", "", *no_journal(2 + len(DIGITS)), IS_HEX, ANYWAY),
+    ("--type Start replay.bytea", "", *no_journal(2 + len(DIGITS)), IS_HEX, ANYWAY),
     # too short to seem anything, and a byte that is not a digit among the first eight
     ("--type Start seven", "", *no_journal(7), ANYWAY),
     ("--type Start colons", "", *no_journal(11), ANYWAY),

@@ -100,13 +100,20 @@ fn hint(first: &[u8]) -> Option<&'static str> {
         return None;
     }
     // a header has zeros, which are the digit 0, and the letter A in base64
-    if first.iter().all(|byte| byte.is_ascii_hexdigit()) && first.contains(&b'0') {
+    let digits = after_prefix(first);
+    if digits.iter().all(|byte| byte.is_ascii_hexdigit()) && digits.contains(&b'0') {
         return Some("this looks like hexadecimal digits; --input hex reads them");
     }
     if first.iter().all(|byte| is_base64(*byte)) {
         return Some("this looks like base64; --input base64 reads it");
     }
     None
+}
+
+/// The bytes after what may stand before hexadecimal digits, `0x` or `\x`.
+fn after_prefix(first: &[u8]) -> &[u8] {
+    let after = first.strip_prefix(b"0x").or(first.strip_prefix(b"\\x"));
+    after.unwrap_or(first)
 }
 
 /// Whether a byte is a digit of base64.

@@ -18,6 +18,7 @@ use schema_lines::Direction;
 use shared_core_renumber::Renumbering;
 use std::io::{self, Read};
 use std::process::ExitCode;
+use stream_lines::PrintError;
 use stream_renumbering::{Options, renumber};
 
 /// Why no version is found of files whose payloads are read by a descriptor set.
@@ -149,6 +150,8 @@ fn renumbered(
             opened.end = Some(found.end);
             Ok((opened, input.kept))
         }
+        // what is written is in memory
+        Err(PrintError::Output) => Err(call.fail(PrintError::OutOfMemory, call.failure)),
         Err(error) => Err(call.fail_reading(format_args!("{path}: {error}"), &progress)),
     }
 }

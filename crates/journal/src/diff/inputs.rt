@@ -74,7 +74,9 @@ fn open_dump(call: &Call<'_>, file: &File<'_>) -> Result<Opened, ExitCode>
             format_args!("{path}:{number}: {error}"),
             INVALID,
         )),
-        Err(error) => Err(fail(call.rt, call.name, format_args!("{path}: {error}"), INVALID)),
+        // what is written is in memory
+        Err(MakeError::Output) => Err(call.fail(MakeError::OutOfMemory, call.failure)),
+        Err(error) => Err(call.fail(format_args!("{path}: {error}"), call.failure)),
     }
 }
 
