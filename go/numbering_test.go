@@ -368,14 +368,10 @@ func TestRenamesAndRejectedSets(t *testing.T) {
 }
 
 func TestEmptySetHasNoField(t *testing.T) {
-	numbering := numberingOf(t, nil, nil)
-	for _, by := range []func(int, []byte) ([]byte, error){numbering.ReadPayload, numbering.WritePayload} {
-		if found, err := by(SchemaSetStateCommandMessage, []byte(ours)); err != nil || len(found) != 0 {
-			t.Errorf("%q, %v", found, err)
-		}
-		if _, err := by(SchemaSetStateCommandMessage, []byte("\n")); !errors.Is(err, ErrMalformed) {
-			t.Error(err)
-		}
+	_, err := NewNumbering(nil, nil)
+	var found *NumberingError
+	if !errors.As(err, &found) || found.Reason != ReasonNoSet || found.Text != "no field of the protocol's messages" {
+		t.Error(err)
 	}
 }
 

@@ -296,11 +296,8 @@ test('renames, and what no numbering comes of', () => {
 });
 
 test('an empty set has no field', () => {
-  const empty = new Numbering(new Uint8Array(0));
-  for (const name of ['readPayload', 'writePayload']) {
-    assert.deepEqual(empty[name]('SetStateCommandMessage', OURS), hex(''));
-    assert.throws(() => empty[name]('SetStateCommandMessage', hex('0a')), { name: 'Malformed' });
-  }
+  const wanted = { name: 'NumberingError', reason: 'noSet', text: "no field of the protocol's messages" };
+  assert.throws(() => new Numbering(new Uint8Array(0)), wanted);
 });
 
 test('any bytes as a set or as a payload', () => {

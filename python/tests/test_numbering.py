@@ -202,8 +202,9 @@ class TestSets(unittest.TestCase):
         self.assertEqual(error.exception.text, "a.proto: a.Value.other: number of a later field")
 
     def test_an_empty_set(self):
-        numbering = Numbering(b"")
-        self.assertEqual((numbering.write_payload(SCHEMA, OURS), numbering.read_payload(SCHEMA, OURS)), (b"", b""))
+        with self.assertRaises(NumberingError) as error:
+            Numbering(b"")
+        self.assertEqual(error.exception.text, "no field of the protocol's messages")
 
     def test_any_bytes(self):
         choose = random.Random(2)

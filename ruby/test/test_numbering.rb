@@ -157,8 +157,8 @@ class TestNumbering < Minitest::Test
     end
     error = assert_raises(Pendratsoa::NumberingError) { Pendratsoa::Numbering.new(twice) }
     assert_equal "a.proto: a.Value.other: number of a later field", error.text
-    empty = Pendratsoa::Numbering.new("")
-    assert_equal ["", ""], [empty.write_payload(SCHEMA, OURS), empty.read_payload(SCHEMA, OURS)]
+    error = assert_raises(Pendratsoa::NumberingError) { Pendratsoa::Numbering.new("") }
+    assert_equal "no field of the protocol's messages", error.text
   end
 
   def test_any_bytes_as_a_set

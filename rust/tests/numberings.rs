@@ -418,11 +418,13 @@ fn renames_and_rejected_sets() {
 
 #[test]
 fn an_empty_set_has_no_field() {
-    let numbering = Numbering::new(b"", &[]).unwrap();
-    let schema = Schema::SetStateCommandMessage.number();
-    assert_eq!(numbering.read_payload(schema, OURS).unwrap(), b"");
-    assert_eq!(numbering.write_payload(schema, OURS).unwrap(), b"");
-    assert!(numbering.read_payload(schema, b"\n").is_err());
+    match Numbering::new(b"", &[]) {
+        Err(Error::Numbering(error)) => {
+            assert_eq!(error.reason, NumberingReason::NoSet);
+            assert_eq!(error.text, "no field of the protocol's messages");
+        }
+        other => panic!("{other:?}"),
+    }
 }
 
 #[test]

@@ -300,6 +300,10 @@ def malformed(ours, few):
 def none(few):
     yield rejected(b"\x08", "no_set", "not a descriptor set")
     yield rejected(b"\x0a\x01", "no_set", "not a descriptor set")
+    # no message, and one whose field the protocol lacks
+    yield rejected(b"", "no_set", "no field of the protocol's messages")
+    other = simple(b"SleepCommand", (b"other", 1, 9))
+    yield rejected(message_set(other), "no_set", "no field of the protocol's messages")
     one = simple(b"Sleep", (b"name", 1, 9), (b"wake", 1, 4))
     yield rejected(message_set(one), "no_set", "b.proto: Sleep.wake: number of a later field")
     sleep = simple(b"Sleep")

@@ -1,8 +1,9 @@
 //! Payloads at other field numbers: those of a descriptor set.
 
-ghost use Rattle.std.specs.Prelude.{◌≡◌, ◌≤◌, All, IfOk, Some};
+ghost use Rattle.std.specs.Prelude.{◌≡◌, ◌≤◌, All, IfOk, Ok, Some, length};
 ghost use Rattle.shared_core_base.specs.Version.{version_number};
 ghost use Rattle.dump_lines.specs.Other.{reading_by};
+ghost use Rattle.schema_lines.specs.Entries.{numbering_entries};
 ghost use Rattle.schema_lines.specs.Numberings.{IsOurs};
 ghost use Rattle.schema_lines.specs.Renames.{names_of, rename_of};
 ghost use Rattle.descriptor_set.specs.Descriptors.{IsDescriptorSet};
@@ -231,7 +232,7 @@ fn items_of(alloc: Global, options: &Options<'_>, stream: &[u8]) -> Result<Vec<u
 
 /// Writes the dump of a stream by the messages of a set, and returns its length in bytes: a line of JSON for each item,
 /// and last one for the trailing bytes. `UnknownVersion` if the number denotes no version; otherwise `Malformed` if no
-/// numbering comes of the set and the renames, for the reason that `write_list` says.
+/// table of messages comes of the set and the renames, for the reason that `write_list` says.
 #[tactic(auto, using(crate::proofs::Writing::writes_outcome))]
 pub fn write_dump(
     alloc: Global,
@@ -359,18 +360,33 @@ fn numbering(
 {
     let lines = lines_of(alloc, renames)?;
     let set = descriptors(alloc, set)?;
-    match numbering_of(alloc, &set, lines.as_slice(), direction) {
+    numbering_in(alloc, &set, lines.as_slice(), direction)
+}
+
+/// The numbering of what is read of a set, with renames.
+fn numbering_in(
+    alloc: Global,
+    set: &DescriptorSet,
+    renames: &[Rename<'_>],
+    direction: Direction,
+) -> Result<Vec<Renumbering>, Rejection>
+    ensures ours { IfOk result (λ entries. All (IsOurs direction) entries.items) }
+    ensures exact { IfOk result (λ entries. numbering_entries set.now renames.now direction ≡ Ok entries.items) }
+    ensures some { IfOk result (λ entries. 1 ≤ length entries.items) }
+{
+    match numbering_of(alloc, set, renames, direction) {
         Ok(entries) => Ok(entries),
-        Err(error) => Err(why_not(alloc, lines.as_slice(), error)?),
+        Err(error) => Err(why_not(alloc, renames, error)?),
     }
 }
 
-/// The list of what is the protocol's in a set.
+/// The list of what is the protocol's in a set of which a numbering comes.
 fn list_of(alloc: Global, set: &[u8], renames: &[u8]) -> Result<Vec<u8>, Rejection>
     ensures { IfOk result (λ _. IsDescriptorSet set.now) }
 {
     let lines = lines_of(alloc, renames)?;
     let set = descriptors(alloc, set)?;
+    numbering_in(alloc, &set, lines.as_slice(), Direction::Reading)?;
     let mut text = Vec::new(alloc);
     match write_schema(alloc, &set, lines.as_slice(), &mut text) {
         Ok(()) => Ok(text),

@@ -737,8 +737,9 @@ struct journal_renumbering {
 
 /*
  * Writes the table of a direction: the fields that a descriptor set and the protocol both have, by their names, in one
- * kind. The renames are lines "THEIRS=OURS" of names of messages, and may be none. Returns how many entries it has; the
- * first ones are written, as many as there is room for.
+ * kind. The renames are lines "THEIRS=OURS" of names of messages, and may be none. Returns how many entries it has,
+ * which is never 0; the first ones are written, as many as there is room for. A set without such a field is rejected:
+ * its numbering would leave out all fields.
  *
  * Errors, in order of precedence: JOURNAL_UNKNOWN_OPTION if there is no such direction, JOURNAL_MALFORMED if no
  * numbering comes of the set and the renames, for the reason that journal_numbering_text says; JOURNAL_OUT_OF_MEMORY
@@ -797,9 +798,9 @@ int64_t journal_renumber_stream(uint32_t version, const struct journal_renumberi
  * for each item, with all fields that the set has, and a last one for the trailing bytes. Returns its length in bytes.
  * The set is read anew by each call.
  *
- * Errors, in order of precedence: JOURNAL_UNKNOWN_VERSION, JOURNAL_MALFORMED if no numbering comes of the set and the
- * renames, for the reason that journal_numbering_text says, JOURNAL_TOO_LONG; JOURNAL_OUT_OF_MEMORY may replace each
- * after JOURNAL_UNKNOWN_VERSION.
+ * Errors, in order of precedence: JOURNAL_UNKNOWN_VERSION, JOURNAL_MALFORMED if no table of messages comes of the set
+ * and the renames, for the reason that journal_numbering_text says, JOURNAL_TOO_LONG; JOURNAL_OUT_OF_MEMORY may replace
+ * each after JOURNAL_UNKNOWN_VERSION.
  */
 int64_t journal_numbering_dump(uint32_t version, const uint8_t *set, size_t set_length, const uint8_t *renames,
                                size_t renames_length, const uint8_t *stream, size_t stream_length, uint8_t *out,
