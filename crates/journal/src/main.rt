@@ -110,10 +110,8 @@ fn main(rt: HostRuntime) -> ExitCode {
         Ok(arguments) => arguments,
         Err(error) => return end_unread(&rt, error),
     };
-    let path = arguments.first().map(|path| path.as_str());
-    let word = arguments.get(1).map(|word| word.as_str());
-    let Some(asked) = Asked::of(path, word) else {
-        if word == Some(VIEW) {
+    let Some(asked) = Asked::by(arguments.as_slice()) else {
+        if arguments.get(1).is_some_and(|word| word.as_str() == VIEW) {
             return fail(&rt, "journal view", IS_A_PROGRAM, NO_SUBCOMMAND);
         }
         let error = match why_none(rt.alloc(), arguments.as_slice()) {
@@ -124,7 +122,7 @@ fn main(rt: HostRuntime) -> ExitCode {
     let call = Call {
         rt: &rt,
         name: asked.name(),
-        words: arguments.get(asked.place()..).unwrap_or(&[]),
+        words: asked.own_words(arguments.as_slice()),
         failure: asked.subcommand.failure(),
     };
     match run(&call, asked.subcommand) {

@@ -167,6 +167,7 @@ pub struct Asked {
 
 impl Asked {
     ghost use Rattle.std.specs.Prelude.{◌≡◌, IfSome, IsNone, MatchOption, true, false, if◌then◌else◌};
+    ghost use Rattle.std.specs.Prelude.{drop, slice_get, string_bytes};
     ghost use Rattle.journal.specs.declared.subcommand.Subcommand.{Subcommand as AnySubcommand};
     ghost use Rattle.journal.specs.Subcommands.{call_name, subcommand_name, IsNoProgram, IsProgramOf};
 
@@ -194,6 +195,19 @@ impl Asked {
         })
     }
 
+    /// What the arguments ask for: the first of them is the program's path.
+    pub fn by(arguments: &[String]) -> Option<Asked>
+        ensures program { IfSome result (λ asked. asked.is_program ≡ true
+            → MatchOption (slice_get arguments.now 0) ⊥ (λ path. IsProgramOf (string_bytes path) asked.subcommand)) }
+        ensures word { IfSome result (λ asked. asked.is_program ≡ false
+            → MatchOption (slice_get arguments.now 1) ⊥
+            (λ word. string_bytes word ≡ subcommand_name asked.subcommand)) }
+    {
+        let path = arguments.first().map(|path| path.as_str());
+        let word = arguments.get(1).map(|word| word.as_str());
+        Asked::of(path, word)
+    }
+
     /// How it is called, as messages and the usage show it.
     pub fn name(self) -> &'static str
         ensures { result.now ≡ call_name self }
@@ -219,11 +233,16 @@ impl Asked {
         }
     }
 
-    /// How many arguments come before its own.
-    pub fn place(self) -> usize
-        ensures { result ≡ (if self.is_program then 1 else 2) }
+    /// Its own arguments: all that come after those which ask for it.
+    #[tactic(auto, using(std::proofs::lemmas::List::drop_all, std::proofs::lemmas::List::take_rest))]
+    pub fn own_words(self, arguments: &[String]) -> &[String]
+        ensures { result.now ≡ drop (if self.is_program then 1 else 2) arguments.now }
     {
-        if self.is_program { 1 } else { 2 }
+        let place = if self.is_program { 1 } else { 2 };
+        match arguments.get(place..) {
+            Some(words) => words,
+            None => &[],
+        }
     }
 }
 
