@@ -1,7 +1,8 @@
 //! Compares two journals, one of them possibly the standard input, and prints where they differ.
 
-ghost use Rattle.std.specs.Prelude.{◌≡◌, ◌≢◌, ◌≤◌, codes};
+ghost use Rattle.std.specs.Prelude.{◌≡◌, ◌≢◌, ◌<◌, ◌≤◌, true, codes, IfSome, IsNone};
 ghost use Rattle.shared_core_base.specs.Version.{version_number};
+ghost use Rattle.replay_bench.specs.Survey.{trouble_of};
 ghost use Rattle.replay_bench.specs.Verdicts.{stopped_index};
 ghost use Rattle.journal.specs.Comparisons.{prints_all, shortens, AreNamesOf, IsComparisonOf, IsFormOf};
 
@@ -290,6 +291,9 @@ fn compared_beyond(
     index: u64,
 ) -> Option<Comparison>
     requires { 5 ≤ version_number parsed.now.options.version }
+    ensures beyond { IfSome result (λ found. index < stopped_index found.verdict) }
+    ensures strict { IfSome result (λ found. parsed.now.is_strict ≡ true
+        → IsNone (trouble_of found.recorded) × IsNone (trouble_of found.replayed)) }
 {
     let alloc = call.rt.alloc();
     let version = parsed.options.version;
