@@ -1,6 +1,6 @@
 //! Describes streams, files or the standard input: some lines about each.
 
-ghost use Rattle.std.specs.Prelude.{◌≤◌};
+ghost use Rattle.std.specs.Prelude.{◌≡◌, ◌≤◌};
 ghost use Rattle.shared_core_base.specs.Version.{version_number};
 
 use crate::beginning::Beginning;
@@ -89,16 +89,23 @@ fn write_fits(call: &Call<'_>, numbers: &str) -> Result<(), ExitCode> {
     }
 }
 
+/// How a file is described at a version.
+fn options_at(file: &File<'_>, version: Version) -> Options
+    ensures { (result.version ≡ version) × (result.limit ≡ file.now.options.limit) × (result.chunk_size ≡ CHUNK) }
+{
+    Options {
+        version,
+        limit: file.options.limit,
+        chunk_size: CHUNK,
+    }
+}
+
 /// Describes the stream of a file at a version.
 fn describe_at(call: &Call<'_>, file: &File<'_>, version: Version) -> Result<ExitCode, ExitCode>
     requires { 5 ≤ version_number version }
 {
-    let options = Options {
-        version,
-        limit: file.options.limit,
-        chunk_size: CHUNK,
-    };
-    file.open(call)?.print(call, file.path, &options)
+    file.open(call)?
+        .print(call, file.path, &options_at(file, version))
 }
 
 /// Describes the stream of a file. If its version is to be found, it is the newest that the stream fits, and a line

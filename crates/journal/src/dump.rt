@@ -91,17 +91,7 @@ fn run_by<M: MessageTable>(
     let file = &parsed.file;
     let dumping = Dumping {
         alloc: call.rt.alloc(),
-        options: Options {
-            version: file.options.version,
-            limit: file.options.limit,
-            codes: parsed.codes.as_slice(),
-            payloads: parsed.payloads,
-            texts: parsed.texts,
-            pretty: parsed.pretty,
-            // a user who selects messages goes on with what is in them
-            rest: parsed.codes.is_empty(),
-            strict: parsed.strict,
-        },
+        options: parsed.options(),
         messages,
     };
     file.open(call)?.print(call, file.path, &dumping)

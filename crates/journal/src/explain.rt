@@ -1,6 +1,6 @@
 //! Explains the bytes of a stream, a file or the standard input.
 
-ghost use Rattle.std.specs.Prelude.{◌≤◌, IfOk, codes};
+ghost use Rattle.std.specs.Prelude.{◌≡◌, ◌≤◌, IfOk, codes};
 ghost use Rattle.clap.specs.Matches.{first_value, found_of};
 ghost use Rattle.shared_core_base.specs.Version.{version_number};
 ghost use Rattle.journal.specs.Arguments.{IsFlagOf};
@@ -36,6 +36,22 @@ struct Arguments<'a> {
     at: Option<u64>,
     /// Whether bytes are shown as they are.
     raw: bool,
+}
+
+impl<'a> Arguments<'a> {
+    /// What is explained of the stream, and how.
+    fn options(&self) -> Options
+        ensures read { (result.version ≡ self.now.file.options.version)
+            × (result.limit ≡ self.now.file.options.limit) }
+        ensures explained { (result.at ≡ self.now.at) × (result.raw ≡ self.now.raw) }
+    {
+        Options {
+            version: self.file.options.version,
+            limit: self.file.options.limit,
+            at: self.at,
+            raw: self.raw,
+        }
+    }
 }
 
 impl<'a> FromMatches<'a> for Arguments<'a> {
@@ -100,13 +116,8 @@ impl Print for Options {
 
 /// Parses the arguments, explains the stream, and returns the status.
 pub fn run(call: &Call<'_>) -> Result<ExitCode, ExitCode> {
-    let parsed: Arguments<'_> = call.parse(call.command(&definitions::EXPLAIN)?)?;
-    let file = parsed.file.fitted(call)?;
-    let options = Options {
-        version: file.options.version,
-        limit: file.options.limit,
-        at: parsed.at,
-        raw: parsed.raw,
-    };
-    file.open(call)?.print(call, file.path, &options)
+    let mut parsed: Arguments<'_> = call.parse(call.command(&definitions::EXPLAIN)?)?;
+    parsed.file = parsed.file.fitted(call)?;
+    let file = &parsed.file;
+    file.open(call)?.print(call, file.path, &parsed.options())
 }

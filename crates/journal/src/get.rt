@@ -46,6 +46,25 @@ struct Arguments<'a> {
     path: &'a str,
 }
 
+impl<'a> Arguments<'a> {
+    /// Which field is written, with a limit on the length of a payload.
+    fn request(&self, limit: u32) -> Request<'a>
+        ensures read { (result.options.version ≡ self.now.file.options.version) × (result.options.limit ≡ limit)
+            × (result.options.chunk_size ≡ CHUNK) }
+        ensures field { (result.index ≡ self.now.index) × (result.path.now ≡ self.now.path.now) }
+    {
+        Request {
+            options: Options {
+                version: self.file.options.version,
+                limit,
+                chunk_size: CHUNK,
+            },
+            index: self.index,
+            path: self.path.as_bytes(),
+        }
+    }
+}
+
 impl<'a> FromMatches<'a> for Arguments<'a> {
     ghost is_read = { λ found parsed. IsFileOf found parsed.file
         × IsSchemaOf found parsed.schema × IsIndexOf (first_value found (codes "item")) (Some parsed.index)
@@ -190,14 +209,6 @@ pub fn run(call: &Call<'_>) -> Result<ExitCode, ExitCode> {
     parsed.file = parsed.file.fitted(call)?;
     let entries = numbering.as_ref().map(|entries| entries.as_slice());
     let opened = open_numbered(call, &parsed.file, entries)?;
-    let request = Request {
-        options: Options {
-            version: parsed.file.options.version,
-            limit: opened.limit,
-            chunk_size: CHUNK,
-        },
-        index: parsed.index,
-        path: parsed.path.as_bytes(),
-    };
+    let request = parsed.request(opened.limit);
     opened.print(call, parsed.file.path, &request)
 }

@@ -1,6 +1,6 @@
 //! Lists a stream, a file or the standard input: one line for each of its items.
 
-ghost use Rattle.std.specs.Prelude.{◌≤◌};
+ghost use Rattle.std.specs.Prelude.{◌≡◌, ◌≤◌};
 ghost use Rattle.shared_core_base.specs.Version.{version_number};
 ghost use Rattle.journal.specs.Arguments.{IsSchemaOf};
 ghost use Rattle.journal.specs.Files.{IsFileOf};
@@ -30,6 +30,22 @@ struct Arguments<'a> {
     file: File<'a>,
     /// Which set names types that the protocol does not have.
     schema: SchemaArguments<'a>,
+}
+
+impl<'a> Arguments<'a> {
+    /// How the stream is listed, with the names of some types.
+    fn options<'n>(&self, names: &'n [OtherName<'n>]) -> Options<'n>
+        ensures read { (result.version ≡ self.now.file.options.version)
+            × (result.limit ≡ self.now.file.options.limit) × (result.chunk_size ≡ CHUNK) }
+        ensures names { result.names.now ≡ names.now }
+    {
+        Options {
+            version: self.file.options.version,
+            limit: self.file.options.limit,
+            chunk_size: CHUNK,
+            names,
+        }
+    }
 }
 
 impl<'a> FromMatches<'a> for Arguments<'a> {
@@ -78,11 +94,15 @@ fn names_for(call: &Call<'_>, parsed: &Arguments<'_>) -> Result<Vec<TypeName>, E
     }
 }
 
-/// Lists the file with the names of some types, and returns the status.
-fn run_with(call: &Call<'_>, file: &File<'_>, found: &[TypeName]) -> Result<ExitCode, ExitCode>
-    requires { 5 ≤ version_number file.now.options.version }
+/// Lists the stream with the names of some types, and returns the status.
+fn run_with(
+    call: &Call<'_>,
+    parsed: &Arguments<'_>,
+    found: &[TypeName],
+) -> Result<ExitCode, ExitCode>
+    requires { 5 ≤ version_number parsed.now.file.options.version }
 {
-    let opened = file.open(call)?;
+    let opened = parsed.file.open(call)?;
     let mut names = Vec::new(call.rt.alloc());
     for one in found {
         let named = OtherName {
@@ -93,19 +113,14 @@ fn run_with(call: &Call<'_>, file: &File<'_>, found: &[TypeName]) -> Result<Exit
             return Err(call.fail("out of memory", call.failure));
         }
     }
-    let options = Options {
-        version: file.options.version,
-        limit: file.options.limit,
-        chunk_size: CHUNK,
-        names: names.as_slice(),
-    };
-    opened.print(call, file.path, &options)
+    let options = parsed.options(names.as_slice());
+    opened.print(call, parsed.file.path, &options)
 }
 
 /// Parses the arguments, lists the stream, and returns the status.
 pub fn run(call: &Call<'_>) -> Result<ExitCode, ExitCode> {
-    let parsed: Arguments<'_> = call.parse(call.command(&definitions::LIST)?)?;
+    let mut parsed: Arguments<'_> = call.parse(call.command(&definitions::LIST)?)?;
     let names = names_for(call, &parsed)?;
-    let file = parsed.file.fitted(call)?;
-    run_with(call, &file, names.as_slice())
+    parsed.file = parsed.file.fitted(call)?;
+    run_with(call, &parsed, names.as_slice())
 }

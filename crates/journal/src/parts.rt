@@ -1,13 +1,13 @@
 //! What `cut` and `cat` have in common: files whose items are read first, and then parts of their bytes.
 
-ghost use Rattle.std.specs.Prelude.{◌≤◌};
+ghost use Rattle.std.specs.Prelude.{◌≡◌, ◌≤◌};
 ghost use Rattle.shared_core_base.specs.Version.{version_number};
 
 mod announcing;
 
 use crate::beginning::{Beginning, Begun};
 use crate::call::{Call, rest_at};
-use crate::file::{File, FileOptions};
+use crate::file::File;
 use crate::parts::announcing::announcing;
 use command_line::{Decoding, Pipe, Progress, fail, input_size, note};
 use shared_core::encoding::RawMessage;
@@ -22,6 +22,18 @@ const CHUNK: usize = 65536;
 /// The status if a stream has no message, or lacks a command.
 pub const LACKING: u8 = 1;
 
+/// How the items of a file are read.
+fn options_of(file: &File<'_>) -> Options
+    ensures { (result.version ≡ file.now.options.version) × (result.limit ≡ file.now.options.limit)
+        × (result.chunk_size ≡ CHUNK) }
+{
+    Options {
+        version: file.options.version,
+        limit: file.options.limit,
+        chunk_size: CHUNK,
+    }
+}
+
 impl<'a> File<'a> {
     /// Reads the items of the file, and returns where the commands of a range are. The error is the status, after what
     /// is wrong was reported.
@@ -29,21 +41,11 @@ impl<'a> File<'a> {
         requires { 5 ≤ version_number self.now.options.version }
     {
         let input = self.open_again(call)?;
-        let FileOptions {
-            version,
-            limit,
-            encoding,
-            ..
-        } = self.options;
-        let options = Options {
-            version,
-            limit,
-            chunk_size: CHUNK,
-        };
+        let options = options_of(self);
         let progress = Progress::beside_output(call.rt, call.name, input_size(&input));
         let beginning = Beginning::new();
         let mut input = Begun::new(
-            Decoding::new(input, self.path, encoding, &progress),
+            Decoding::new(input, self.path, self.options.encoding, &progress),
             &beginning,
         );
         let located = locate(call.rt.alloc(), &options, range, &mut input);

@@ -34,6 +34,22 @@ struct Arguments<'a> {
     secret: Option<&'a str>,
 }
 
+impl<'a> Arguments<'a> {
+    /// How the stream is written, with this key.
+    fn options(&self, key: Key) -> Options
+        ensures read { (result.version ≡ self.now.file.options.version)
+            × (result.limit ≡ self.now.file.options.limit) × (result.chunk_size ≡ CHUNK) }
+        ensures keyed { result.key ≡ key }
+    {
+        Options {
+            version: self.file.options.version,
+            limit: self.file.options.limit,
+            chunk_size: CHUNK,
+            key,
+        }
+    }
+}
+
 impl<'a> FromMatches<'a> for Arguments<'a> {
     ghost is_read = { λ found parsed. IsFileOf found parsed.file
         × (option_map (λ secret. secret.now) parsed.secret ≡ first_value found (codes "key")) };
@@ -96,14 +112,10 @@ impl Print for Options {
 
 /// Parses the arguments, writes the stream, and returns the status.
 pub fn run(call: &Call<'_>) -> Result<ExitCode, ExitCode> {
-    let parsed: Arguments<'_> = call.parse(call.command(&definitions::REDACT)?)?;
+    let mut parsed: Arguments<'_> = call.parse(call.command(&definitions::REDACT)?)?;
     call.expect_redirected("the stream")?;
-    let file = parsed.file.fitted(call)?;
-    let options = Options {
-        version: file.options.version,
-        limit: file.options.limit,
-        chunk_size: CHUNK,
-        key: key_of(call, parsed.secret)?,
-    };
+    parsed.file = parsed.file.fitted(call)?;
+    let options = parsed.options(key_of(call, parsed.secret)?);
+    let file = &parsed.file;
     file.open(call)?.print(call, file.path, &options)
 }

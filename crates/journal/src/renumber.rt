@@ -1,6 +1,6 @@
 //! Writes a stream at the protocol's own field numbers, from those of a descriptor set, or back.
 
-ghost use Rattle.std.specs.Prelude.{◌≤◌};
+ghost use Rattle.std.specs.Prelude.{◌≡◌, ◌≤◌};
 ghost use Rattle.shared_core_base.specs.Version.{version_number};
 ghost use Rattle.journal.specs.Arguments.{IsDirectionOf, IsSchemaOf};
 ghost use Rattle.journal.specs.Files.{IsFileOf};
@@ -33,6 +33,21 @@ struct Arguments<'a> {
     schema: SchemaArguments<'a>,
     /// From which numbers to which.
     direction: Direction,
+}
+
+impl<'a> Arguments<'a> {
+    /// How the stream is written, by the table of a set.
+    fn options<'e>(&self, entries: &'e [Renumbering]) -> Options<'e>
+        ensures read { (result.version ≡ self.now.file.options.version)
+            × (result.limit ≡ self.now.file.options.limit) }
+        ensures entries { result.entries.now ≡ entries.now }
+    {
+        Options {
+            version: self.file.options.version,
+            limit: self.file.options.limit,
+            entries,
+        }
+    }
 }
 
 impl<'a> FromMatches<'a> for Arguments<'a> {
@@ -100,10 +115,6 @@ pub fn run(call: &Call<'_>) -> Result<ExitCode, ExitCode> {
     call.expect_redirected("the stream")?;
     let entries = numbering_of(call, &parsed)?;
     let file = &parsed.file;
-    let options = Options {
-        version: file.options.version,
-        limit: file.options.limit,
-        entries: entries.as_slice(),
-    };
+    let options = parsed.options(entries.as_slice());
     file.open(call)?.print(call, file.path, &options)
 }

@@ -1,6 +1,6 @@
 //! Shows a stream, a file or the standard input: a readable line for each of its items.
 
-ghost use Rattle.std.specs.Prelude.{◌≤◌, ◌-◌, ◌^◌, IfOk, codes};
+ghost use Rattle.std.specs.Prelude.{◌≡◌, ◌≤◌, ◌-◌, ◌^◌, ◌||◌, IfOk, codes};
 ghost use Rattle.clap.specs.Matches.{first_value, found_of};
 ghost use Rattle.shared_core_base.specs.Version.{version_number};
 ghost use Rattle.journal.specs.Arguments.{IsFilterOf, IsFlagOf, IsSchemaOf};
@@ -43,8 +43,11 @@ struct Arguments<'a> {
 impl<'a> Arguments<'a> {
     /// How the stream is shown, with a limit on the length of a payload.
     fn options(&self, limit: u32) -> Options<'_>
-        requires { 5 ≤ version_number self.now.file.options.version }
-        ensures { 5 ≤ version_number result.version }
+        ensures read { (result.version ≡ self.now.file.options.version) × (result.limit ≡ limit) }
+        ensures range { (result.from ≡ self.now.from) × (result.to ≡ self.now.to) }
+        ensures kinds { (result.commands ≡ self.now.commands) × (result.failures ≡ self.now.failures)
+            × (result.«open» ≡ (self.now.«open» || self.now.filter.«open»)) }
+        ensures words { result.words.now ≡ self.now.filter.words.items }
     {
         Options {
             version: self.file.options.version,

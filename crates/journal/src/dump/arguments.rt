@@ -1,6 +1,6 @@
-//! Parsing the arguments.
+//! Parsing the arguments, and what they say of the dump.
 
-ghost use Rattle.std.specs.Prelude.{IfOk};
+ghost use Rattle.std.specs.Prelude.{◌≡◌, ◌==◌, IfOk, vec_len};
 ghost use Rattle.clap.specs.Matches.{found_of};
 ghost use Rattle.journal.specs.Arguments.{IsDumpOf};
 
@@ -10,6 +10,7 @@ use crate::file::File;
 use clap::error::ErrorKind;
 use clap::{ArgMatches, Command, Error};
 use command_line::FromMatches;
+use dump_lines::Options;
 use shared_core_base::header::MessageType;
 use std::alloc::{AllocError, Global};
 
@@ -30,6 +31,31 @@ pub struct Arguments<'a> {
     pub pretty: bool,
     /// Whether an unknown code, a malformed payload or trailing bytes is a failure.
     pub strict: bool,
+}
+
+impl<'a> Arguments<'a> {
+    /// How the stream is dumped.
+    pub fn options(&self) -> Options<'_>
+        ensures read { (result.version ≡ self.now.file.options.version)
+            × (result.limit ≡ self.now.file.options.limit) }
+        ensures selected { (result.codes.now ≡ self.now.codes.items)
+            × (result.rest ≡ (vec_len self.now.codes == 0)) }
+        ensures printed { (result.payloads ≡ self.now.payloads) × (result.texts ≡ self.now.texts)
+            × (result.pretty ≡ self.now.pretty) }
+        ensures strict { result.strict ≡ self.now.strict }
+    {
+        Options {
+            version: self.file.options.version,
+            limit: self.file.options.limit,
+            codes: self.codes.as_slice(),
+            payloads: self.payloads,
+            texts: self.texts,
+            pretty: self.pretty,
+            // a user who selects messages goes on with what is in them
+            rest: self.codes.is_empty(),
+            strict: self.strict,
+        }
+    }
 }
 
 /// The code of the type that has this name, in upper or lower case: a named type's, with or without `Message` at the
