@@ -1,9 +1,13 @@
 -- What the arguments of a comparison say of it, and of what is printed.
-use Rattle.std.specs.Prelude.{◌≡◌, Bool, true, false, not, ◌&&◌, ◌||◌, Option, MatchOption}
+use Rattle.std.specs.Prelude.{◌≡◌, ℕ, List, Bool, true, false, not, ◌&&◌, ◌||◌, if◌then◌else◌, codes}
+use Rattle.std.specs.Prelude.{Option, Some, None, MatchOption}
+use Rattle.std.specs.Str.{bytes_eq}
 use Rattle.diff_lines.specs.declared.heading.Names.{Names}
 use Rattle.diff_lines.specs.declared.journals.Form.{Form}
 use Rattle.diff_lines.specs.declared.journals.Form.TheVariants.{Text, Json}
 use Rattle.replay_bench.specs.declared.journals.ComparisonOptions.{ComparisonOptions}
+use Rattle.replay_bench.specs.declared.verdicts.Side.{Side}
+use Rattle.replay_bench.specs.declared.verdicts.Side.TheVariants.{Recorded, Replayed}
 use Rattle.journal.specs.declared.diff.arguments.Arguments.{Arguments}
 use Rattle.journal.specs.declared.diff.arguments.ValuesChoice.{ValuesChoice}
 use Rattle.journal.specs.declared.diff.arguments.ValuesChoice.TheVariants.{Auto, Short, Whole}
@@ -40,3 +44,9 @@ abbrev pub AreNamesOf : Arguments → Bool → Option Names → Type 0
 AreNamesOf parsed is_terminal names =
     MatchOption names (is_terminal ≡ false) (λ names. (is_terminal ≡ true)
     × (names.recorded.now ≡ parsed.recorded.now) × (names.replayed.now ≡ parsed.replayed.now))
+
+-- Which journal comes from the standard input, if one does, by the paths of the recorded and of the replayed one.
+abbrev pub standard_side : List ℕ → List ℕ → Option Side
+standard_side recorded replayed =
+    if bytes_eq replayed (codes "-") then Some Replayed
+    else (if bytes_eq recorded (codes "-") then Some Recorded else None)

@@ -4,5 +4,6 @@ pub mod Files
 pub mod Indices
 pub mod Opened
 pub mod Schemas
+pub mod Statuses
 pub mod Subcommands
 pub mod Troubles

@@ -1,6 +1,14 @@
--- Which descriptor set is read.
+-- Which descriptor set is read, and what is made of it.
 use Rattle.std.specs.Prelude.{◌≡◌, ◌≢◌, ℕ, List, [], Bool, false, codes}
-use Rattle.std.specs.Prelude.{Option, None, Some, IsSome, is_some, option_map}
+use Rattle.std.specs.Prelude.{Option, None, Some, IsSome, is_some, option_map, Ok}
+use Rattle.descriptor_set.specs.Sets.{IsSetOf}
+use Rattle.descriptor_set.specs.declared.set.DescriptorSet.{DescriptorSet}
+use Rattle.schema_lines.specs.Entries.{numbering_entries}
+use Rattle.schema_lines.specs.Named.{named_of}
+use Rattle.schema_lines.specs.Pairs.{schemas_in}
+use Rattle.schema_lines.specs.declared.numbering.Direction.{Direction}
+use Rattle.schema_lines.specs.declared.renames.Rename.{Rename}
+use Rattle.shared_core_renumber.specs.declared.entries.Renumbering.{Renumbering}
 use Rattle.journal.specs.declared.descriptors.SchemaArguments.{SchemaArguments}
 use Rattle.journal.specs.declared.file.File.{File}
 
@@ -24,3 +32,17 @@ IsSetFor schema file path =
 -- Whether there is a set by which the file is read.
 abbrev pub HasSetFor : SchemaArguments → File → Bool → Type 0
 HasSetFor schema file has-set = (path : Option (List ℕ)) × IsSetFor schema file path × (is_some path ≡ has-set)
+
+-- They are the entries of the numbering, in a direction, of the set that these bytes are, with these renames.
+abbrev pub IsNumberingIn : List ℕ → List Rename → Direction → List Renumbering → Type 0
+IsNumberingIn bytes renames direction entries =
+    (set : DescriptorSet) × IsSetOf bytes set × (numbering_entries set renames direction ≡ Ok entries)
+
+-- They are those of some set with these renames. No contract can say what a file has.
+abbrev pub IsNumberingBy : List Rename → Direction → List Renumbering → Type 0
+IsNumberingBy renames direction entries = (bytes : List ℕ) × IsNumberingIn bytes renames direction entries
+
+-- They are the messages for the protocol's schemas of the set that these bytes are, with these renames.
+abbrev pub IsTableIn : List ℕ → List Rename → List (Option ℕ) → Type 0
+IsTableIn bytes renames schemas =
+    (set : DescriptorSet) × IsSetOf bytes set × (schemas_in set (named_of set renames) ≡ Ok schemas)

@@ -2,6 +2,10 @@
 //!
 //! It is found out by a reader around the input, in a cell. No contract can speak of a cell: it is tested.
 
+ghost use Rattle.std.specs.Prelude.{◌≡◌};
+ghost use Rattle.std.specs.Process.{exit_status};
+ghost use Rattle.journal.specs.Statuses.{written_status};
+
 use crate::call::Call;
 use command_line::note;
 use shared_core_base::version::Version;
@@ -52,7 +56,9 @@ impl Beginning {
 
     /// Reports the trailing bytes after a stream was written, and returns the status. It is not that of success if no
     /// item comes before them.
-    pub fn end_written(&self, call: &Call<'_>, version: Version, found: &Report) -> ExitCode {
+    pub fn end_written(&self, call: &Call<'_>, version: Version, found: &Report) -> ExitCode
+        ensures { exit_status result ≡ written_status found.now }
+    {
         let (offset, count) = (found.end, found.rest);
         if count == 0 {
             return ExitCode::SUCCESS;

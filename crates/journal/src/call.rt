@@ -2,7 +2,8 @@
 //!
 //! Where a function here or of a subcommand has a status as its error, what is wrong was reported before.
 
-ghost use Rattle.std.specs.Prelude.{◌≡◌, IfOk, map, string_bytes};
+ghost use Rattle.std.specs.Prelude.{◌≡◌, IfErr, IfOk, map, string_bytes};
+ghost use Rattle.std.specs.Process.{exit_status};
 ghost use Rattle.clap.specs.Simple.{app_of};
 ghost use Rattle.replay_bench.specs.declared.faults.FaultReason.TheVariants.{Rest};
 ghost use Rattle.command_line.specs.Parsing.{without_name, IsReadOf};
@@ -35,7 +36,9 @@ pub struct Call<'a> {
 
 impl<'a> Call<'a> {
     /// The command that parses its arguments. The error is the status, after a failed allocation was reported.
-    pub fn command(&self, definition: &Definition) -> Result<Command<'a>, ExitCode> {
+    pub fn command(&self, definition: &Definition) -> Result<Command<'a>, ExitCode>
+        ensures { IfErr result (λ status. exit_status status ≡ self.now.failure) }
+    {
         match definition.command(self.rt.alloc(), self.name) {
             Ok(command) => Ok(command),
             Err(_) => Err(self.fail("out of memory", self.failure)),
@@ -55,7 +58,9 @@ impl<'a> Call<'a> {
     }
 
     /// Fails if the output is a terminal, which takes some bytes of `what` as commands.
-    pub fn expect_redirected(&self, what: &str) -> Result<(), ExitCode> {
+    pub fn expect_redirected(&self, what: &str) -> Result<(), ExitCode>
+        ensures { IfErr result (λ status. exit_status status ≡ 2) }
+    {
         if !self.rt.stdout().is_terminal() {
             return Ok(());
         }
@@ -68,7 +73,9 @@ impl<'a> Call<'a> {
     }
 
     /// Opens a file for reading, or the standard input if the path is `-`. If that is a terminal, says that it is read.
-    pub fn open(&self, path: &str) -> Result<Input, ExitCode> {
+    pub fn open(&self, path: &str) -> Result<Input, ExitCode>
+        ensures { IfErr result (λ status. exit_status status ≡ 2) }
+    {
         note_terminal(self.rt, self.name, path);
         match open(self.rt, path) {
             Ok(input) => Ok(input),
@@ -82,12 +89,16 @@ impl<'a> Call<'a> {
     }
 
     /// Prints why it fails, as `note` does, and returns the status.
-    pub fn fail<T: Display + Drop>(&self, why: T, status: u8) -> ExitCode {
+    pub fn fail<T: Display + Drop>(&self, why: T, status: u8) -> ExitCode
+        ensures { exit_status result ≡ status }
+    {
         fail(self.rt, self.name, why, status)
     }
 
     /// Prints why reading failed, unless it was reported already what is wrong with the input, and returns the status.
-    pub fn fail_reading<T: Display + Drop>(&self, why: T, progress: &Progress<'_>) -> ExitCode {
+    pub fn fail_reading<T: Display + Drop>(&self, why: T, progress: &Progress<'_>) -> ExitCode
+        ensures { exit_status result ≡ self.now.failure }
+    {
         if progress.has_reported() {
             return ExitCode::from(self.failure);
         }
@@ -101,7 +112,9 @@ impl<'a> Call<'a> {
         error: PrintError,
         is_closed: bool,
         progress: &Progress<'_>,
-    ) -> ExitCode {
+    ) -> ExitCode
+        ensures { exit_status result ≡ self.now.failure }
+    {
         match error {
             PrintError::Output if is_closed => ExitCode::from(self.failure),
             error => self.fail_reading(error, progress),

@@ -1,7 +1,8 @@
 //! Writes a part of a journal as a stream: what comes before its first command, and the commands of a range with all
 //! that is between them.
 
-ghost use Rattle.std.specs.Prelude.{◌≤◌, IfOk};
+ghost use Rattle.std.specs.Prelude.{◌≡◌, ◌≤◌, IfOk};
+ghost use Rattle.std.specs.Process.{exit_status};
 ghost use Rattle.clap.specs.Matches.{first_value, found_of};
 ghost use Rattle.shared_core_base.specs.Version.{version_number};
 ghost use Rattle.journal.specs.Files.{IsFileOf};
@@ -80,7 +81,9 @@ impl<'a> FromMatches<'a> for Arguments<'a> {
 }
 
 /// Reports that the journal lacks a command of the range, and returns the status.
-fn fail_lacking(call: &Call<'_>, path: &str, range: Range, commands: u64) -> ExitCode {
+fn fail_lacking(call: &Call<'_>, path: &str, range: Range, commands: u64) -> ExitCode
+    ensures { exit_status result ≡ 1 }
+{
     let wanted = if range.until == u64::MAX {
         range.from
     } else {

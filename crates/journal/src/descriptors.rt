@@ -1,11 +1,18 @@
 //! Descriptor sets: which one a call names, reading it, and reporting why there is none.
 
-ghost use Rattle.std.specs.Prelude.{◌≡◌, ◌≢◌, [], None, Some, IfOk, IsNone, codes, map, option_copied, option_map};
-ghost use Rattle.std.specs.Prelude.{string_bytes};
+ghost use Rattle.std.specs.Prelude.{◌≡◌, ◌≢◌, [], None, Some, Ok, IfOk, IfErr, IsNone, codes, map, option_copied};
+ghost use Rattle.std.specs.Prelude.{◌==◌, Err, option_map, string_bytes, string_len, if◌then◌else◌};
+ghost use Rattle.std.specs.Process.{exit_status};
 ghost use Rattle.clap.specs.Matches.{found_of};
+ghost use Rattle.descriptor_set.specs.Sets.{IsSetOf};
+ghost use Rattle.schema_lines.specs.Entries.{numbering_entries};
+ghost use Rattle.schema_lines.specs.Named.{named_of};
+ghost use Rattle.schema_lines.specs.Pairs.{schemas_in};
 ghost use Rattle.schema_lines.specs.Renames.{names_of, rename_of, said_names};
+ghost use Rattle.schema_lines.specs.declared.error.SchemaError.TheVariants.{NoFields};
+ghost use Rattle.schema_lines.specs.declared.numbering.Direction.TheVariants.{Reading};
 ghost use Rattle.journal.specs.Arguments.{AreRenamesOf, IsSchemaOf};
-ghost use Rattle.journal.specs.Schemas.{IsPathBy, IsSetPath};
+ghost use Rattle.journal.specs.Schemas.{IsNumberingBy, IsNumberingIn, IsPathBy, IsSetPath, IsTableIn};
 
 use crate::call::{Call, INVALID};
 use crate::similar::push_similar;
@@ -106,7 +113,7 @@ pub fn schema_path(
 ) -> Result<Option<String>, ExitCode>
     ensures { IfOk result (λ path. IsSetPath schema.now input.now (option_map string_bytes path)) }
 {
-    let path = match path_of(call, schema.path) {
+    let path = match named_or_variable(call, schema.path) {
         Ok(path) => path,
         Err(VarError::OutOfMemory) => return Err(call.fail("out of memory", call.failure)),
         Err(_) => {
@@ -139,7 +146,7 @@ fn why_not(path: Option<&str>, schema: &SchemaArguments<'_>, input: &str) -> Opt
 }
 
 /// The path of an option, or else of the variable, if that is not empty.
-fn path_of(call: &Call<'_>, option: Option<&str>) -> Result<Option<String>, VarError>
+fn named_or_variable(call: &Call<'_>, option: Option<&str>) -> Result<Option<String>, VarError>
     ensures { IfOk result
         (λ path. IsPathBy (option_map (λ named. named.now) option.entry) (option_map string_bytes path)) }
 {
@@ -147,16 +154,18 @@ fn path_of(call: &Call<'_>, option: Option<&str>) -> Result<Option<String>, VarE
         return Ok(Some(String::from_str(call.rt.alloc(), path)?));
     }
     match env::var(call.rt, VARIABLE) {
-        Ok(path) => {
-            if path.is_empty() {
-                Ok(None)
-            } else {
-                Ok(Some(path))
-            }
-        }
+        Ok(path) => Ok(not_empty(path)),
         Err(VarError::NotPresent) => Ok(None),
         Err(error) => Err(error),
     }
+}
+
+/// A path, unless it is empty.
+fn not_empty(path: String) -> Option<String>
+    ensures exact { result ≡ (if string_len path == 0 then None else Some path) }
+    ensures filled { option_map string_bytes result ≢ Some [] }
+{
+    if path.is_empty() { None } else { Some(path) }
 }
 
 /// The table of a descriptor set, by reference.
@@ -187,6 +196,32 @@ pub struct Description {
     pub messages: OtherMessages,
 }
 
+/// A file that was read, and what options say of the set in it.
+#[derive(Drop)]
+struct SetFile<'a> {
+    path: &'a str,
+    bytes: Vec<u8>,
+    renames: &'a [Rename<'a>],
+}
+
+impl<'a> SetFile<'a> {
+    /// Reads a file, or the standard input if the path is `-`. If that fails, reports why, and the error is the status.
+    fn read(
+        call: &Call<'_>,
+        path: &'a str,
+        renames: &'a [Rename<'a>],
+    ) -> Result<SetFile<'a>, ExitCode>
+        ensures { IfOk result (λ file. file.renames.now ≡ renames.now) }
+    {
+        let bytes = read_bytes(call, path)?;
+        Ok(SetFile {
+            path,
+            bytes,
+            renames,
+        })
+    }
+}
+
 /// Reads the set of a file, and finds the messages of the protocol in it. If there is a fault, reports it, and the
 /// error is the status.
 pub fn read_messages(
@@ -194,9 +229,19 @@ pub fn read_messages(
     path: &str,
     renames: &[Rename<'_>],
 ) -> Result<OtherMessages, ExitCode> {
-    let set = read_descriptors(call, path)?;
-    let made = messages_of(call.rt.alloc(), &set, renames);
-    made_of(call, path, (&set, renames), made)
+    let file = SetFile::read(call, path, renames)?;
+    messages_in(call, &file)
+}
+
+/// The messages of the protocol in the set of a file. If there is a fault, reports it, and the error is the status.
+fn messages_in(call: &Call<'_>, file: &SetFile<'_>) -> Result<OtherMessages, ExitCode>
+    ensures { IfOk result
+        (λ messages. IsTableIn file.now.bytes.items file.now.renames.now messages.schemas.items) }
+{
+    let set = descriptors_in(call, file.path, file.bytes.as_slice())?;
+    let made = messages_of(call.rt.alloc(), &set, file.renames);
+    let messages = made_of(call, file, &set, made)?;
+    Ok(messages)
 }
 
 /// Reads the set of a file, and makes the table by which payloads are written again from its numbers to the protocol's,
@@ -206,10 +251,27 @@ pub fn read_numbering(
     path: &str,
     renames: &[Rename<'_>],
     direction: Direction,
-) -> Result<Vec<Renumbering>, ExitCode> {
-    let set = read_descriptors(call, path)?;
-    let made = numbering_of(call.rt.alloc(), &set, renames, direction);
-    made_of(call, path, (&set, renames), made)
+) -> Result<Vec<Renumbering>, ExitCode>
+    ensures { IfOk result (λ entries. IsNumberingBy renames.now direction entries.items) }
+{
+    let file = SetFile::read(call, path, renames)?;
+    let entries = numbering_in(call, &file, direction)?;
+    Ok(entries)
+}
+
+/// That table of the set of a file. If there is a fault, reports it, and the error is the status.
+fn numbering_in(
+    call: &Call<'_>,
+    file: &SetFile<'_>,
+    direction: Direction,
+) -> Result<Vec<Renumbering>, ExitCode>
+    ensures { IfOk result
+        (λ entries. IsNumberingIn file.now.bytes.items file.now.renames.now direction entries.items) }
+{
+    let set = descriptors_in(call, file.path, file.bytes.as_slice())?;
+    let made = numbering_of(call.rt.alloc(), &set, file.renames, direction);
+    let entries = made_of(call, file, &set, made)?;
+    Ok(entries)
 }
 
 /// Reads the set of a file, and what it says of streams. If there is a fault, reports it, and the error is the status.
@@ -217,10 +279,25 @@ pub fn read_description(
     call: &Call<'_>,
     path: &str,
     renames: &[Rename<'_>],
-) -> Result<Description, ExitCode> {
-    let set = read_descriptors(call, path)?;
-    let made = description_of(call.rt.alloc(), &set, renames);
-    made_of(call, path, (&set, renames), made)
+) -> Result<Description, ExitCode>
+    ensures { IfOk result (λ description. IsNumberingBy renames.now Reading description.numbering.items) }
+{
+    let file = SetFile::read(call, path, renames)?;
+    let description = description_in(call, &file)?;
+    Ok(description)
+}
+
+/// What the set of a file says of streams. If there is a fault, reports it, and the error is the status.
+fn description_in(call: &Call<'_>, file: &SetFile<'_>) -> Result<Description, ExitCode>
+    ensures numbering { IfOk result (λ description.
+        IsNumberingIn file.now.bytes.items file.now.renames.now Reading description.numbering.items) }
+    ensures messages { IfOk result (λ description.
+        IsTableIn file.now.bytes.items file.now.renames.now description.messages.schemas.items) }
+{
+    let set = descriptors_in(call, file.path, file.bytes.as_slice())?;
+    let made = description_of(call.rt.alloc(), &set, file.renames);
+    let description = made_of(call, file, &set, made)?;
+    Ok(description)
 }
 
 /// The name of a type that only a set has.
@@ -237,9 +314,10 @@ pub fn read_type_names(
     path: &str,
     renames: &[Rename<'_>],
 ) -> Result<Vec<TypeName>, ExitCode> {
-    let set = read_descriptors(call, path)?;
+    let file = SetFile::read(call, path, renames)?;
+    let set = descriptors_in(call, path, file.bytes.as_slice())?;
     let made = type_names_of(call.rt.alloc(), &set, renames);
-    made_of(call, path, (&set, renames), made)
+    made_of(call, &file, &set, made)
 }
 
 /// The last names of the messages of the types that only a set has, escaped as for a terminal.
@@ -268,7 +346,10 @@ fn messages_of(
     alloc: Global,
     set: &DescriptorSet,
     renames: &[Rename<'_>],
-) -> Result<OtherMessages, SchemaError> {
+) -> Result<OtherMessages, SchemaError>
+    ensures { IfOk result
+        (λ messages. schemas_in set.now (named_of set.now renames.now) ≡ Ok messages.schemas.items) }
+{
     Ok(OtherMessages {
         table: named_table_of(alloc, set)?,
         schemas: schemas_of(alloc, set, renames)?,
@@ -280,36 +361,51 @@ fn description_of(
     alloc: Global,
     set: &DescriptorSet,
     renames: &[Rename<'_>],
-) -> Result<Description, SchemaError> {
+) -> Result<Description, SchemaError>
+    ensures numbering { IfOk result
+        (λ description. numbering_entries set.now renames.now Reading ≡ Ok description.numbering.items) }
+    ensures messages { IfOk result (λ description.
+        schemas_in set.now (named_of set.now renames.now) ≡ Ok description.messages.schemas.items) }
+{
     Ok(Description {
         numbering: numbering_of(alloc, set, renames, Direction::Reading)?,
         messages: messages_of(alloc, set, renames)?,
     })
 }
 
-/// What was made of the set of a file with some renames. If it was not, reports why, and the error is the status.
+/// What was made of the set of a file. If it was not, reports why, and the error is the status.
 fn made_of<T: Drop>(
     call: &Call<'_>,
-    path: &str,
-    given: (&DescriptorSet, &[Rename<'_>]),
+    file: &SetFile<'_>,
+    set: &DescriptorSet,
     made: Result<T, SchemaError>,
-) -> Result<T, ExitCode> {
+) -> Result<T, ExitCode>
+    ensures same { IfOk result (λ value. made.entry ≡ Ok value) }
+    ensures no_fields { IfErr result (λ status. made.entry ≡ Err NoFields → exit_status status ≡ 2) }
+{
+    let path = file.path;
     match made {
         Ok(made) => Ok(made),
         Err(SchemaError::Descriptor(error)) => Err(fail_descriptors(call, path, error)),
         Err(error @ SchemaError::NoFields) => {
             Err(fail(call.rt, call.name, format_args!("{path}: {error}"), INVALID))
         }
-        Err(error) => Err(fail_schema(call, given.0, given.1, error)),
+        Err(error) => Err(fail_schema(call, set, file.renames, error)),
     }
 }
 
 /// Reads a set of a file, or of the standard input if the path is `-`. If there is none, reports why, and the error is
 /// the status.
 pub fn read_descriptors(call: &Call<'_>, path: &str) -> Result<DescriptorSet, ExitCode> {
+    let bytes = read_bytes(call, path)?;
+    descriptors_in(call, path, bytes.as_slice())
+}
+
+/// Reads the bytes of such a file. If that fails, reports why, and the error is the status.
+fn read_bytes(call: &Call<'_>, path: &str) -> Result<Vec<u8>, ExitCode> {
     let input = call.open(path)?;
     match read(call.rt.alloc(), input) {
-        Ok(bytes) => descriptors_in(call, path, bytes.as_slice()),
+        Ok(bytes) => Ok(bytes),
         Err(error) => Err(fail(
             call.rt,
             call.name,
@@ -320,7 +416,9 @@ pub fn read_descriptors(call: &Call<'_>, path: &str) -> Result<DescriptorSet, Ex
 }
 
 /// The set in the bytes of a file. If there is none, reports why, and the error is the status.
-fn descriptors_in(call: &Call<'_>, path: &str, bytes: &[u8]) -> Result<DescriptorSet, ExitCode> {
+fn descriptors_in(call: &Call<'_>, path: &str, bytes: &[u8]) -> Result<DescriptorSet, ExitCode>
+    ensures { IfOk result (IsSetOf bytes.now) }
+{
     match read_set(call.rt.alloc(), bytes) {
         Ok(set) => Ok(set),
         Err(DescriptorError::Malformed(_)) if is_proto(bytes) => Err(fail(

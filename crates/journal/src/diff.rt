@@ -1,6 +1,7 @@
 //! Compares two journals, one of them possibly the standard input, and prints where they differ.
 
-ghost use Rattle.std.specs.Prelude.{◌≡◌, ◌≢◌, ◌<◌, ◌≤◌, true, codes, IfSome, IsNone};
+ghost use Rattle.std.specs.Prelude.{◌≡◌, ◌≢◌, ◌<◌, ◌≤◌, ◌⊎◌, true, codes, if◌then◌else◌, IfErr, IfSome, IsNone};
+ghost use Rattle.std.specs.Process.{exit_status};
 ghost use Rattle.shared_core_base.specs.Version.{version_number};
 ghost use Rattle.replay_bench.specs.Survey.{trouble_of};
 ghost use Rattle.replay_bench.specs.Verdicts.{stopped_index};
@@ -16,7 +17,7 @@ use crate::call::Call;
 use crate::definitions;
 use crate::descriptors::Description;
 use crate::diff::arguments::{Arguments, ValuesChoice};
-use crate::diff::inputs::{Inputs, closed_side, open_both, open_both_by};
+use crate::diff::inputs::{Inputs, closed_side, open_both, open_both_by, standard_side};
 use crate::diff::their_lines::{Shown, their_json, their_text};
 use crate::diff::theirs::{TheirDifference, Unread, their_difference};
 use crate::file::File;
@@ -44,6 +45,9 @@ struct Beginnings {
     recorded: Beginning,
     replayed: Beginning,
 }
+
+/// The status if the journals differ.
+const DIFFERENT: u8 = 1;
 
 /// Reports what the comparison passed over.
 fn tell(call: &Call<'_>, found: &Findings) {
@@ -80,7 +84,9 @@ fn end_without(
     version: Version,
     error: DiffError,
     beginnings: &Beginnings,
-) -> ExitCode {
+) -> ExitCode
+    ensures { exit_status result ≡ call.now.failure }
+{
     match error {
         DiffError::Faulty(trouble) => tell_trouble(call, version, &trouble, beginnings),
         DiffError::NoVerdict(_) | DiffError::Output => call.note(error),
@@ -149,13 +155,25 @@ fn options_of<'a>(call: &Call<'_>, parsed: &Arguments<'a>, is_terminal: bool) ->
     }
 }
 
-/// Compares the two inputs, prints the verdict and returns its status.
+/// The status of a verdict.
+fn status_of(found: &Findings) -> ExitCode
+    ensures { exit_status result ≡ (if found.now.is_same then 0 else 1) }
+{
+    if found.is_same {
+        ExitCode::SUCCESS
+    } else {
+        ExitCode::from(DIFFERENT)
+    }
+}
+
+/// Compares the two inputs, prints the verdict and returns its status. The error is that of a failure.
 fn run_parsed<'a>(
     call: &Call<'a>,
     parsed: &Arguments<'a>,
     inputs: Inputs,
 ) -> Result<ExitCode, ExitCode>
     requires { 5 ≤ version_number parsed.now.options.version }
+    ensures { IfErr result (λ status. exit_status status ≡ call.now.failure) }
 {
     let version = parsed.options.version;
     let progress = Progress::new(call.rt, call.name, inputs.size());
@@ -209,7 +227,7 @@ fn run_parsed<'a>(
     match found {
         Ok(found) => {
             tell(call, &found);
-            Ok(ExitCode::from(if found.is_same { 0 } else { 1 }))
+            Ok(status_of(&found))
         }
         // the reader has closed the output, so nothing is reported
         Err(DiffError::Output) if output.is_broken() => Err(ExitCode::from(call.failure)),
@@ -243,10 +261,9 @@ fn standard_input<'a>(parsed: &Arguments<'a>) -> File<'a>
     ensures recorded { parsed.now.replayed.now ≢ codes "-" → result.path.now ≡ parsed.now.recorded.now }
     ensures options { result.options ≡ parsed.now.options }
 {
-    let path = if parsed.replayed == "-" {
-        parsed.replayed
-    } else {
-        parsed.recorded
+    let path = match standard_side(parsed) {
+        Some(Side::Replayed) => parsed.replayed,
+        Some(Side::Recorded) | None => parsed.recorded,
     };
     File {
         path,
@@ -324,13 +341,16 @@ fn same_count(verdict: &Verdict) -> u64
     }
 }
 
-/// Prints the first difference, which is in fields that only the set has, and returns the status.
+/// Prints the first difference, which is in fields that only the set has, and returns the status of one, or that of a
+/// failure.
 fn end_different(
     call: &Call<'_>,
     parsed: &Arguments<'_>,
     difference: &TheirDifference,
     found: &Comparison,
-) -> ExitCode {
+) -> ExitCode
+    ensures { (exit_status result ≡ 1) ⊎ (exit_status result ≡ call.now.failure) }
+{
     let is_terminal = call.rt.stdout().is_terminal();
     let text = match text_of(call, parsed, difference, is_terminal) {
         Ok(text) => text,
@@ -354,7 +374,7 @@ fn end_different(
         replayed: found.replayed,
     };
     tell(call, &findings);
-    ExitCode::from(1)
+    status_of(&findings)
 }
 
 /// What is printed of a difference, to a terminal or not.

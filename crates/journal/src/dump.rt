@@ -1,7 +1,9 @@
 //! Prints a stream as JSON, a file or the standard input: one object per line for each of its items.
 
-ghost use Rattle.std.specs.Prelude.{◌≤◌};
+ghost use Rattle.std.specs.Prelude.{◌≡◌, ◌≤◌};
+ghost use Rattle.std.specs.Process.{exit_status};
 ghost use Rattle.shared_core_base.specs.Version.{version_number};
+ghost use Rattle.journal.specs.Statuses.{dumped_status};
 
 mod arguments;
 mod canonical;
@@ -20,6 +22,7 @@ use dump_lines::{Dumping, MOST_SHOWN, MessageTable, Options, ProtocolTable};
 use std::io::{IsTerminal, Read, Write};
 use std::process::ExitCode;
 use stream_lines::{PrintError, Report};
+use stream_versions::fits;
 use terminal_text::{Escapes, Escaping};
 
 /// The status of `--strict` if something is wrong with the stream.
@@ -46,7 +49,9 @@ impl<'a, M: MessageTable> Print for Dumping<'a, M> {
     }
 
     /// Reports the first error of the stream and the trailing bytes.
-    fn end(&self, call: &Call<'_>, beginning: &Beginning, found: Report) -> ExitCode {
+    fn end(&self, call: &Call<'_>, beginning: &Beginning, found: Report) -> ExitCode
+        ensures { exit_status result ≡ dumped_status self.now.options.strict found }
+    {
         let options = &self.options;
         if let Some((offset, trouble)) = found.trouble {
             call.report_trouble(offset, trouble);
@@ -60,7 +65,7 @@ impl<'a, M: MessageTable> Print for Dumping<'a, M> {
                 }
             }
         }
-        if options.strict && (found.trouble.is_some() || found.rest > 0) {
+        if options.strict && !fits(&found) {
             return ExitCode::from(UNFIT);
         }
         ExitCode::SUCCESS

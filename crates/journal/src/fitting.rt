@@ -1,6 +1,7 @@
 //! The version of files that are read by `--protocol auto`: the newest one that all of them fit.
 
 ghost use Rattle.std.specs.Prelude.{◌≡◌, ◌≤◌, IfOk};
+ghost use Rattle.std.specs.Process.{exit_status};
 ghost use Rattle.shared_core_base.specs.Version.{version_number};
 ghost use Rattle.journal.specs.Files.{AreFittedTo};
 
@@ -159,7 +160,9 @@ fn fail_unfit(
     first: &Misfit<'_>,
     middle: &Misfit<'_>,
     last: &Misfit<'_>,
-) -> ExitCode {
+) -> ExitCode
+    ensures { exit_status result ≡ 2 }
+{
     fail(
         call.rt,
         call.name,

@@ -1,11 +1,13 @@
 //! Writes a field of an item of a stream, a file or the standard input.
 
-ghost use Rattle.std.specs.Prelude.{◌≡◌, ◌≤◌, IfOk, Some, codes, unwrap_or, []};
+ghost use Rattle.std.specs.Prelude.{◌≡◌, ◌≤◌, ◌⊎◌, IfOk, Some, codes, unwrap_or, []};
+ghost use Rattle.std.specs.Process.{exit_status};
 ghost use Rattle.clap.specs.Matches.{first_value, found_of};
 ghost use Rattle.shared_core_base.specs.Version.{version_number};
 ghost use Rattle.journal.specs.Arguments.{IsSchemaOf};
 ghost use Rattle.journal.specs.Files.{IsFileOf};
 ghost use Rattle.journal.specs.Indices.{IsIndexOf};
+ghost use Rattle.journal.specs.Statuses.{IsGotStatus};
 
 use crate::beginning::Beginning;
 use crate::call::Call;
@@ -142,8 +144,10 @@ fn push_names(text: &mut String, names: &[&str]) -> Result<(), AllocError> {
     Ok(())
 }
 
-/// Reports that an item has no field that a path leads to, and returns the status.
-fn end_lacking(call: &Call<'_>, index: u64, schema: u32, rest: &[u8]) -> ExitCode {
+/// Reports that an item has no field that a path leads to, and returns the status. Without memory that is a failure.
+fn end_lacking(call: &Call<'_>, index: u64, schema: u32, rest: &[u8]) -> ExitCode
+    ensures { (exit_status result ≡ 1) ⊎ (exit_status result ≡ call.now.failure) }
+{
     let rest = str::from_utf8(rest).unwrap_or("");
     match why_lacking(call.rt.alloc(), schema, rest) {
         Ok(why) => fail(
@@ -172,7 +176,9 @@ impl<'q> Print for Request<'q> {
     }
 
     /// Reports what there is not, if that is so.
-    fn end(&self, call: &Call<'_>, beginning: &Beginning, answer: Answer<'q>) -> ExitCode {
+    fn end(&self, call: &Call<'_>, beginning: &Beginning, answer: Answer<'q>) -> ExitCode
+        ensures { IsGotStatus call.now.failure answer.entry (exit_status result) }
+    {
         let index = self.index;
         let why = match answer {
             Answer::Written => return ExitCode::SUCCESS,

@@ -1,7 +1,8 @@
 //! Streams that are opened, and printed: one is read to its end, and what is made of it is written to the output.
 
-ghost use Rattle.std.specs.Prelude.{◌≡◌, IfOk, IfSome, unwrap_or, length, []};
+ghost use Rattle.std.specs.Prelude.{◌≡◌, IfErr, IfOk, IfSome, unwrap_or, length, []};
 ghost use Rattle.std.specs.Io.Cursor.{cursor_position};
+ghost use Rattle.std.specs.Process.{exit_status};
 ghost use Rattle.either.specs.Either.{ForRight};
 ghost use Rattle.journal.specs.Opened.{made_bytes, IsOpenedBy, IsReadBy};
 
@@ -95,6 +96,7 @@ impl Opened {
         printing: &P,
     ) -> Result<ExitCode, ExitCode>
         requires { P.is_ready printing.now }
+        ensures { IfErr result (λ status. exit_status status ≡ call.now.failure) }
     {
         let progress = Progress::beside_output(call.rt, call.name, self.size());
         let beginning = Beginning::new();

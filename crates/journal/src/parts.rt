@@ -1,6 +1,7 @@
 //! What `cut` and `cat` have in common: files whose items are read first, and then parts of their bytes.
 
 ghost use Rattle.std.specs.Prelude.{◌≡◌, ◌≤◌};
+ghost use Rattle.std.specs.Process.{exit_status};
 ghost use Rattle.shared_core_base.specs.Version.{version_number};
 
 mod announcing;
@@ -129,7 +130,9 @@ impl<'a> File<'a> {
 }
 
 /// The status after the output failed, which is reported unless its reader has closed it.
-fn fail_output(call: &Call<'_>, output: &Pipe<Stdout>) -> ExitCode {
+fn fail_output(call: &Call<'_>, output: &Pipe<Stdout>) -> ExitCode
+    ensures { exit_status result ≡ call.now.failure }
+{
     if output.is_broken() {
         return ExitCode::from(call.failure);
     }

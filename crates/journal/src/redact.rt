@@ -1,9 +1,11 @@
 //! Writes a stream with its contents replaced, so that it can be shown to others.
 
 ghost use Rattle.std.specs.Prelude.{◌≡◌, ◌≤◌, codes, option_map};
+ghost use Rattle.std.specs.Process.{exit_status};
 ghost use Rattle.clap.specs.Matches.{first_value};
 ghost use Rattle.shared_core_base.specs.Version.{version_number};
 ghost use Rattle.journal.specs.Files.{IsFileOf};
+ghost use Rattle.journal.specs.Statuses.{written_status};
 
 use crate::beginning::Beginning;
 use crate::call::{Call, INVALID};
@@ -105,7 +107,9 @@ impl Print for Options {
     }
 
     /// Reports the trailing bytes.
-    fn end(&self, call: &Call<'_>, beginning: &Beginning, found: Report) -> ExitCode {
+    fn end(&self, call: &Call<'_>, beginning: &Beginning, found: Report) -> ExitCode
+        ensures { exit_status result ≡ written_status found }
+    {
         beginning.end_written(call, self.version, &found)
     }
 }

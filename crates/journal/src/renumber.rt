@@ -1,9 +1,12 @@
 //! Writes a stream at the protocol's own field numbers, from those of a descriptor set, or back.
 
-ghost use Rattle.std.specs.Prelude.{◌≡◌, ◌≤◌};
+ghost use Rattle.std.specs.Prelude.{◌≡◌, ◌≤◌, IfOk};
+ghost use Rattle.std.specs.Process.{exit_status};
 ghost use Rattle.shared_core_base.specs.Version.{version_number};
 ghost use Rattle.journal.specs.Arguments.{IsDirectionOf, IsSchemaOf};
 ghost use Rattle.journal.specs.Files.{IsFileOf};
+ghost use Rattle.journal.specs.Schemas.{IsNumberingBy};
+ghost use Rattle.journal.specs.Statuses.{renumbered_status};
 
 use crate::beginning::Beginning;
 use crate::call::{Call, INVALID};
@@ -88,7 +91,9 @@ impl<'e> Print for Options<'e> {
     }
 
     /// Reports the first payload that has no other numbers and the trailing bytes.
-    fn end(&self, call: &Call<'_>, beginning: &Beginning, found: Report) -> ExitCode {
+    fn end(&self, call: &Call<'_>, beginning: &Beginning, found: Report) -> ExitCode
+        ensures { exit_status result ≡ renumbered_status found }
+    {
         if let Some((offset, trouble)) = found.trouble {
             call.report_trouble(offset, trouble);
         }
@@ -101,12 +106,16 @@ impl<'e> Print for Options<'e> {
 }
 
 /// The table of the set that the options or the variable name. The error is the status.
-fn numbering_of(call: &Call<'_>, parsed: &Arguments<'_>) -> Result<Vec<Renumbering>, ExitCode> {
+fn numbering_of(call: &Call<'_>, parsed: &Arguments<'_>) -> Result<Vec<Renumbering>, ExitCode>
+    ensures { IfOk result
+        (λ entries. IsNumberingBy parsed.now.schema.renames.items parsed.now.direction entries.items) }
+{
     let Some(path) = schema_path(call, &parsed.schema, parsed.file.path)? else {
         return Err(call.fail("--schema FILE names the descriptor set", INVALID));
     };
     let renames = parsed.schema.renames.as_slice();
-    read_numbering(call, path.as_str(), renames, parsed.direction)
+    let entries = read_numbering(call, path.as_str(), renames, parsed.direction)?;
+    Ok(entries)
 }
 
 /// Parses the arguments, writes the stream, and returns the status.

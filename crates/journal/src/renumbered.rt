@@ -1,10 +1,11 @@
 //! Streams whose payloads have the field numbers of a descriptor set: such a stream is written again in memory with the
 //! protocol's own, and then read as any other.
 
-ghost use Rattle.std.specs.Prelude.{◌≡◌, ◌≤◌, IfOk, IsSome, is_some, option_map, string_bytes};
+ghost use Rattle.std.specs.Prelude.{◌≡◌, ◌≤◌, IfOk, IfSome, IsSome, is_some, option_map, string_bytes};
 ghost use Rattle.shared_core_base.specs.Version.{version_number};
+ghost use Rattle.schema_lines.specs.declared.numbering.Direction.TheVariants.{Reading};
 ghost use Rattle.journal.specs.Opened.{IsOpenedBy, IsRenumbered};
-ghost use Rattle.journal.specs.Schemas.{HasSetFor, IsSetFor};
+ghost use Rattle.journal.specs.Schemas.{HasSetFor, IsNumberingBy, IsSetFor};
 
 use crate::call::{Call, INVALID};
 use crate::descriptors::{
@@ -48,7 +49,9 @@ pub fn numbering_for(
     schema: &SchemaArguments<'_>,
     file: &File<'_>,
 ) -> Result<Option<Vec<Renumbering>>, ExitCode>
-    ensures { IfOk result (λ found. HasSetFor schema.now file.now (is_some found)) }
+    ensures set { IfOk result (λ found. HasSetFor schema.now file.now (is_some found)) }
+    ensures entries { IfOk result
+        (λ found. IfSome found (λ entries. IsNumberingBy schema.now.renames.items Reading entries.items)) }
 {
     let Some(path) = set_path(call, schema, file)? else {
         return Ok(None);
@@ -64,7 +67,9 @@ pub fn description_for(
     schema: &SchemaArguments<'_>,
     file: &File<'_>,
 ) -> Result<Option<Description>, ExitCode>
-    ensures { IfOk result (λ found. HasSetFor schema.now file.now (is_some found)) }
+    ensures set { IfOk result (λ found. HasSetFor schema.now file.now (is_some found)) }
+    ensures entries { IfOk result (λ found. IfSome found
+        (λ description. IsNumberingBy schema.now.renames.items Reading description.numbering.items)) }
 {
     let Some(path) = set_path(call, schema, file)? else {
         return Ok(None);

@@ -1,9 +1,9 @@
 //! The two inputs.
 
-ghost use Rattle.std.specs.Prelude.{◌≡◌, ◌≤◌, ◌+◌, ◌^◌, true, false, length, codes};
+ghost use Rattle.std.specs.Prelude.{◌≡◌, ◌≤◌, ◌+◌, ◌^◌, true, false, length};
 ghost use Rattle.std.specs.Prelude.{IfOk, IfSome, MatchOption};
-ghost use Rattle.replay_bench.specs.declared.verdicts.Side.TheVariants.{Recorded, Replayed};
 ghost use Rattle.shared_core_base.specs.Version.{version_number};
+ghost use Rattle.journal.specs.Comparisons.{standard_side};
 ghost use Rattle.journal.specs.Opened.{made_bytes, IsMadeBy, IsOpenedBy, IsRenumbered, IsSoOfBoth};
 
 use crate::call::{Call, INVALID};
@@ -37,19 +37,25 @@ impl Inputs {
     }
 }
 
+/// The journal that comes from the standard input, if one does.
+pub fn standard_side(parsed: &Arguments<'_>) -> Option<Side>
+    ensures { result ≡ standard_side parsed.now.recorded.now parsed.now.replayed.now }
+{
+    if parsed.replayed == "-" {
+        return Some(Side::Replayed);
+    }
+    if parsed.recorded == "-" {
+        return Some(Side::Recorded);
+    }
+    None
+}
+
 /// The journal that is to come from the standard input, if that is closed. The other journal's file would take its
 /// place.
 pub fn closed_side(rt: &HostRuntime, parsed: &Arguments<'_>) -> Option<Side>
-    ensures recorded { result ≡ Some Recorded → parsed.now.recorded.now ≡ codes "-" }
-    ensures replayed { result ≡ Some Replayed → parsed.now.replayed.now ≡ codes "-" }
+    ensures { IfSome result (λ side. standard_side parsed.now.recorded.now parsed.now.replayed.now ≡ Some side) }
 {
-    let side = if parsed.recorded == "-" {
-        Side::Recorded
-    } else if parsed.replayed == "-" {
-        Side::Replayed
-    } else {
-        return None;
-    };
+    let side = standard_side(parsed)?;
     if is_stdin_open(rt) { None } else { Some(side) }
 }
 
