@@ -49,13 +49,15 @@ abbrev pub IsDirectionOf : Found → Direction → Type 0
 IsDirectionOf found Writing = IsFlagOf found (codes "back") true
 IsDirectionOf found Reading = IsFlagOf found (codes "back") false
 
--- They are the arguments of a dump, except for the types that it selects.
+-- They are the arguments of a dump. Which types it selects is not said: without the option `--type` it selects none, and
+-- so all items.
 abbrev pub IsDumpOf : Found → DumpArguments → Type 0
 IsDumpOf found parsed =
     IsFileOf found parsed.file × IsSchemaOf found parsed.schema
     × IsFlagOf found (codes "no-payload") (not parsed.payloads)
     × IsFlagOf found (codes "text") parsed.texts × IsFlagOf found (codes "pretty") parsed.pretty
     × IsFlagOf found (codes "strict") parsed.strict
+    × (matched_of found (codes "type") ≡ None → parsed.codes.items ≡ [])
 
 -- It is what `--values` names, and otherwise `auto`.
 abbrev pub IsValuesOf : Found → ValuesChoice → Type 0

@@ -1,7 +1,7 @@
 //! Parsing the arguments, and what they say of the dump.
 
-ghost use Rattle.std.specs.Prelude.{◌≡◌, ◌==◌, IfOk, vec_len};
-ghost use Rattle.clap.specs.Matches.{found_of};
+ghost use Rattle.std.specs.Prelude.{◌≡◌, ◌==◌, IfOk, vec_len, codes, []};
+ghost use Rattle.clap.specs.Matches.{found_of, matched_of};
 ghost use Rattle.journal.specs.Arguments.{IsDumpOf};
 
 use crate::descriptors::{SchemaArguments, schema_arguments};
@@ -124,12 +124,14 @@ fn arguments_of<'a>(
     })
 }
 
-/// The codes of the types that are named, of each option several between commas.
+/// The codes of the types that are named, of each option several between commas; none without the option.
 fn codes_of(
     alloc: Global,
     command: &mut Command<'_>,
     matches: &ArgMatches<'_>,
-) -> Result<Vec<u16>, Error> {
+) -> Result<Vec<u16>, Error>
+    ensures { IfOk result (λ found. matched_of (found_of matches.now) (codes "type") ≡ None → found.items ≡ []) }
+{
     let mut codes = Vec::new(alloc);
     let Some(names) = matches.get_strs("type") else {
         return Ok(codes);
