@@ -1,22 +1,35 @@
 -- What the arguments of a comparison say of it, and of what is printed.
-use Rattle.std.specs.Prelude.{◌≡◌, ℕ, List, Bool, true, false, not, ◌&&◌, ◌||◌, if◌then◌else◌, codes}
-use Rattle.std.specs.Prelude.{Option, Some, None, MatchOption}
+use Rattle.std.specs.Prelude.{◌≡◌, ℕ, List, [], Bool, true, false, not, ◌&&◌, ◌||◌, if◌then◌else◌, codes}
+use Rattle.std.specs.Prelude.{Option, Some, None, MatchOption, unwrap_or}
 use Rattle.std.specs.Str.{bytes_eq}
 use Rattle.diff_lines.specs.declared.heading.Names.{Names}
 use Rattle.diff_lines.specs.declared.journals.Form.{Form}
 use Rattle.diff_lines.specs.declared.journals.Form.TheVariants.{Text, Json}
 use Rattle.replay_bench.specs.declared.journals.ComparisonOptions.{ComparisonOptions}
+use Rattle.replay_bench.specs.Verdicts.{IsComparison}
+use Rattle.replay_bench.specs.declared.verdicts.Comparison.{Comparison}
 use Rattle.replay_bench.specs.declared.verdicts.Side.{Side}
 use Rattle.replay_bench.specs.declared.verdicts.Side.TheVariants.{Recorded, Replayed}
+use Rattle.journal.specs.Opened.{made_bytes}
 use Rattle.journal.specs.declared.diff.arguments.Arguments.{Arguments}
 use Rattle.journal.specs.declared.diff.arguments.ValuesChoice.{ValuesChoice}
 use Rattle.journal.specs.declared.diff.arguments.ValuesChoice.TheVariants.{Auto, Short, Whole}
+use Rattle.journal.specs.declared.diff.inputs.Inputs.{Inputs}
 
--- The journals are compared as the arguments say.
-abbrev pub IsComparisonOf : Arguments → ComparisonOptions → Type 0
-IsComparisonOf parsed options =
-    (options.ignored.payloads ≡ parsed.ignore_payloads) × (options.ignored.ids ≡ parsed.ignore_ids)
-    × (options.is_strict ≡ parsed.is_strict)
+-- What is compared, by what the arguments say.
+abbrev pub comparison_said : Arguments → ComparisonOptions
+comparison_said parsed =
+    record {
+      ignored = record { payloads = parsed.ignore_payloads; ids = parsed.ignore_ids };
+      is_strict = parsed.is_strict;
+    }
+
+-- Both journals were made, and this is their comparison, as the arguments say.
+abbrev pub IsFoundOf : Arguments → Inputs → Comparison → Type 0
+IsFoundOf parsed inputs found =
+    let said = comparison_said parsed in
+    IsComparison parsed.options.version said.ignored said.is_strict (Some (unwrap_or (made_bytes inputs.recorded) []))
+    (Some (unwrap_or (made_bytes inputs.replayed) [])) found
 
 -- Whether what moved is printed: if that is asked for, or to a terminal, unless the verdict or a line of JSON is.
 abbrev pub prints_all : Arguments → Bool → Bool

@@ -5,7 +5,7 @@ ghost use Rattle.std.specs.Process.{exit_status};
 ghost use Rattle.shared_core_base.specs.Version.{version_number};
 ghost use Rattle.replay_bench.specs.Survey.{trouble_of};
 ghost use Rattle.replay_bench.specs.Verdicts.{stopped_index};
-ghost use Rattle.journal.specs.Comparisons.{prints_all, shortens, AreNamesOf, IsComparisonOf, IsFormOf};
+ghost use Rattle.journal.specs.Comparisons.{comparison_said, prints_all, shortens, AreNamesOf, IsFormOf, IsFoundOf};
 
 mod arguments;
 mod inputs;
@@ -116,7 +116,7 @@ fn is_short(parsed: &Arguments<'_>, is_terminal: bool) -> bool
 
 /// What is compared.
 fn comparison_of(parsed: &Arguments<'_>) -> ComparisonOptions
-    ensures { IsComparisonOf parsed.now result }
+    ensures { result ≡ comparison_said parsed.now }
 {
     ComparisonOptions {
         ignored: Ignored {
@@ -129,7 +129,7 @@ fn comparison_of(parsed: &Arguments<'_>) -> ComparisonOptions
 
 /// What is compared, and what is written of it, to a terminal or not. A terminal shows the names of the journals too.
 fn options_of<'a>(call: &Call<'_>, parsed: &Arguments<'a>, is_terminal: bool) -> DiffOptions<'a>
-    ensures compared { IsComparisonOf parsed.now result.comparison }
+    ensures compared { result.comparison ≡ comparison_said parsed.now }
     ensures form { IsFormOf parsed.now is_terminal result.form }
     ensures all { result.is_all ≡ prints_all parsed.now is_terminal }
     ensures names { AreNamesOf parsed.now is_terminal result.names }
@@ -308,6 +308,7 @@ fn compared_beyond(
     index: u64,
 ) -> Option<Comparison>
     requires { 5 ≤ version_number parsed.now.options.version }
+    ensures found { IfSome result (IsFoundOf parsed.now inputs.now) }
     ensures beyond { IfSome result (λ found. index < stopped_index found.verdict) }
     ensures strict { IfSome result (λ found. parsed.now.is_strict ≡ true
         → IsNone (trouble_of found.recorded) × IsNone (trouble_of found.replayed)) }
