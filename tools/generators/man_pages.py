@@ -8,6 +8,7 @@ import typing
 from . import ROOT, Refused, missing, programs  # noqa: F401
 from .calls_data import entries, errors, paragraphs, sentence_of_errors
 from .calls_data import calls as described_calls
+from .pages import ARGUMENTS
 from .versions import library_version
 
 ABOUT = "The man pages of the programs and of the library for C."
@@ -144,7 +145,7 @@ BLOCK = re.compile(r"^(?:```(?:.|\n)*?^```|    .*(?:\n+    .*)*|(?:.+(?:\n|\Z))+
 
 
 def blocks(text):
-    """The paragraphs, items, tables and code of a section: its kind and its text."""
+    """The paragraphs, items, tables, code and headings of a section: its kind and its text."""
     for block in BLOCK.findall(text):
         block = block.rstrip("\n")
         if block.startswith("```"):
@@ -156,14 +157,17 @@ def blocks(text):
         elif block.startswith("- "):
             for item in re.split(r"^- ", block, flags=re.M)[1:]:
                 yield "item", item
+        elif block.startswith("### "):
+            yield "heading", block.removeprefix("### ")
         else:
             yield "paragraph", block
 
 
 def section(page, heading):
-    """What is below the heading of a page of Markdown that begins so, without comments, and the rest of the heading."""
+    """What is below the heading of a page of Markdown that begins so, without comments and what is generated below one,
+    and the rest of the heading."""
     found = re.search(rf"^## {re.escape(heading)}(.*)\n+((?:(?!^## ).*\n)*)", page, re.M)
-    return re.sub(r"<!--.*?-->", "", found[2]), found[1]
+    return re.sub(r"<!--.*?-->", "", ARGUMENTS.sub("", found[2])), found[1]
 
 
 def title(name, text):
@@ -225,12 +229,11 @@ def program_page(program):
     parts[programs.heading(program)] = "".join(tagged(tag, said) for tag, said in program.all_items())
     part = "DESCRIPTION"
     for kind, block in rest:
-        if kind == "item" or block.startswith("!["):
-            # the list of the arguments, and a picture
+        if block.startswith("!["):
             continue
-        if kind in ("code", "table"):
+        if kind in BELONGING:
             # it belongs to the paragraph before it
-            parts[part] += example(block) if kind == "code" else table(block)
+            parts[part] += BELONGING[kind](block)
             continue
         part = "DESCRIPTION"
         if block.startswith("The status "):
@@ -261,20 +264,32 @@ def cells(line):
 
 
 def table(text):
-    """A table's rows as items: of two cells the first is the tag, of more the first two, and the last its heading."""
+    """A table's rows as items. The first cell is the tag, and of four the first two. The last cell has its heading
+    before it if there are more than two, and in a table of three the second has too. A dash is left out."""
     found = ""
     head, _, *lines = text.split("\n")
+    heads = cells(head)
     for line in lines:
         row = cells(line)
-        tag, said = (row[:1], row[1]) if len(row) == 2 else (row[:2], f"{row[2]}. {cells(head)[3]}: {row[3]}")
-        found += f".TP\n{inline(', '.join(tag))}\n{filled(said)}"
+        tags = 2 if len(row) == 4 else 1
+        said = [cell if at == tags and len(row) != 3 else f"{heads[at]}: {cell}" for at, cell in enumerate(row)][tags:]
+        said = [cell for cell in said if not cell.endswith("–")]
+        found += f".TP\n{inline(', '.join(row[:tags]))}\n{filled('. '.join(said))}"
     return found
+
+
+def heading(text):
+    """The heading of a part of a section."""
+    return f".SS {inline(text)}\n"
 
 
 def prose(text):
     """A section of a page of Markdown."""
-    makers = {"code": example, "item": item, "table": table}
-    return "".join(makers.get(kind, lambda block: ".PP\n" + filled(block))(block) for kind, block in blocks(text))
+    return "".join(BELONGING.get(kind, lambda block: ".PP\n" + filled(block))(block) for kind, block in blocks(text))
+
+
+# How each kind of a block that is not a paragraph is made.
+BELONGING = {"code": example, "item": item, "table": table, "heading": heading}
 
 
 def as_code(words):
