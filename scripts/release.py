@@ -331,7 +331,7 @@ def results(options: argparse.Namespace) -> dict[str, str]:
 
 def trusted() -> str:
     """What is trusted, as the page on what is proved says."""
-    return pathlib.Path("docs/PROOFS.md").read_text().partition("\n## What is trusted\n")[2]
+    return pathlib.Path("docs/PROOFS.md").read_text().partition("\n## What is trusted\n")[2].partition("\n## ")[0]
 
 
 def commit(is_draft: bool) -> str:
