@@ -40,7 +40,7 @@ PROGRAMS = "docs/PROGRAMS.md"
 USED = "(## {name}: .*\n\n)(?:    .*\n)+"
 ARGUMENTS = re.compile(r"(<!-- Written by tools/generate\.py pages\. -->\n\n)(?:(?:- |  ).*\n)+")
 # What is said of an argument that the page says once of all programs.
-AS_OF_DUMP = "as of `journal dump`."
+AS_FOR_DUMP = "as for `journal dump`."
 
 # The first page: its table of speed, whose rows are those of the page of measurements that begin with these cells.
 FRONT = "README.md"
@@ -98,11 +98,11 @@ def list_of_schemas():
 
 
 def list_of_arguments(program):
-    """What a program's arguments do, an item for each that is not just as of another program."""
+    """What a program's arguments do, an item for each that is not just as for another program."""
     wrapped = (
         textwrap.wrap(f"{tag}: {said}", 118, break_long_words=False, break_on_hyphens=False)
         for tag, said in program.items()
-        if said != AS_OF_DUMP
+        if said != AS_FOR_DUMP
     )
     return "".join("- " + "\n  ".join(lines) + "\n" for lines in wrapped)
 
