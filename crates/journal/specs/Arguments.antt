@@ -49,8 +49,8 @@ abbrev pub IsDirectionOf : Found → Direction → Type 0
 IsDirectionOf found Writing = IsFlagOf found (codes "back") true
 IsDirectionOf found Reading = IsFlagOf found (codes "back") false
 
--- They are the arguments of a dump. Which types it selects is not said: without the option `--type` it selects none, and
--- so all items.
+-- They are the arguments of a dump. Which types it selects is not said: without the option `--type` it selects
+-- none, and so all items.
 abbrev pub IsDumpOf : Found → DumpArguments → Type 0
 IsDumpOf found parsed =
     IsFileOf found parsed.file × IsSchemaOf found parsed.schema
