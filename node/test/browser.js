@@ -1,7 +1,8 @@
 // The test vectors in a browser, by the page's entry of the package, and the cases of numberings.cases;
 // scripts/checks/browser_vectors.py serves it.
 //
-// It leaves what is found as `window.result`. Nothing of Node is there. Lines of `record` have no call.
+// It leaves what is found as `window.result`. Nothing of Node is there. Lines of the kinds `record` and `fields` have
+// no call; one of a kind that is not known fails.
 
 import {
   JournalError,
@@ -53,6 +54,9 @@ function listed(item) {
       return `skipped ${code} ${item.payload.length}`;
   }
 }
+
+// The kinds of lines that no call of the package is for.
+const OTHERS = ['record', 'fields'];
 
 const KINDS = {
   payload(name, payload) {
@@ -133,11 +137,11 @@ const NUMBERINGS = {
   },
 };
 
-/** The result of what a line has before ` = `, by the kinds of its file; undefined if there is no call of it. */
+/** The result of what a line has before ` = `, by the kinds of its file; undefined if a call cannot be given it. */
 function resultOf(kinds, question) {
   const [kind, ...words] = question.split(' ');
   if (kinds[kind] === undefined) {
-    return undefined;
+    return 'no such kind of line';
   }
   try {
     return kinds[kind](...words);
@@ -167,7 +171,8 @@ for (const [address, kinds] of [
   ['/conformance/numberings.cases', NUMBERINGS],
 ]) {
   const text = await (await fetch(address)).text();
-  for (const line of text.split('\n').filter((each) => each !== '' && !each.startsWith('#'))) {
+  const isCase = (line) => line !== '' && !line.startsWith('#') && !OTHERS.includes(line.split(' ', 1)[0]);
+  for (const line of text.split('\n').filter(isCase)) {
     const end = line.indexOf(' = ');
     const found = resultOf(kinds, line.slice(0, end));
     if (found !== undefined) {

@@ -220,7 +220,18 @@ static int is_right(uint32_t schema, const char *kind, const struct buffer *payl
     return is_malformed ? result == JOURNAL_MALFORMED && canonical == JOURNAL_MALFORMED : is_same;
 }
 
-/* Checks a line: 1 if it passed, 0 if it failed, and -1 if it is not checked. */
+/* The kinds of lines that have one payload and its record, and those that have something else. */
+static const char *const kinds[] = {"payload", "record", "fields", "json", NULL};
+static const char *const others[] = {"merge", "frame", "stream", "compare", "read", NULL};
+
+static int is_one_of(const char *kind, const char *const *names) {
+    while (kind != NULL && *names != NULL && strcmp(kind, *names) != 0) {
+        names++;
+    }
+    return kind != NULL && *names != NULL;
+}
+
+/* Checks a line: 1 if it passed, 0 if it failed, and -1 if it is not checked. One of no kind fails. */
 static int check_line(char *line) {
     char *expected = strstr(line, " = "), *word;
     const char *kind;
@@ -229,15 +240,21 @@ static int check_line(char *line) {
     unsigned byte;
     int passed;
 
-    if (line[0] == '#' || expected == NULL) {
+    if (line[0] == '#' || line[0] == '\0') {
         return -1;
     }
-    *expected = '\0';
-    expected += strlen(" = ");
+    printed.length = 0;
+    if (expected != NULL) {
+        *expected = '\0';
+        expected += strlen(" = ");
+    }
     kind = strtok(line, " ");
-    if (strcmp(kind, "payload") != 0 && strcmp(kind, "record") != 0 && strcmp(kind, "fields") != 0 &&
-        strcmp(kind, "json") != 0) {
+    if (is_one_of(kind, others)) {
         return -1;
+    }
+    if (expected == NULL || !is_one_of(kind, kinds)) {
+        print_words("no such kind of line, or no result");
+        return 0;
     }
     schema = schema_of(strtok(NULL, " "));
     word = strtok(NULL, " ");

@@ -312,16 +312,7 @@ static void stream(void) {
 static const struct kind_of_line kinds[] = {
     {"set", set}, {"read", read_payload}, {"write", write_payload}, {"stream", stream}};
 
-/* A line that is neither empty nor a comment is a case. */
-static int check_line(char *line) {
-    const int is_case = line[0] != '#' && line[0] != '\0';
-    int outcome;
-
-    found.length = 0;
-    append(&found, NULL, 0);
-    outcome = check_words(line, kinds, sizeof kinds / sizeof *kinds);
-    return outcome < 0 && is_case ? 0 : outcome;
-}
+static int check_line(char *line) { return check_words(line, kinds, sizeof kinds / sizeof *kinds); }
 
 int main(int count, char **arguments) {
     const int status = check_lines(count, arguments, check_line, &found);

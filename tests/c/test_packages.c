@@ -4,8 +4,9 @@
  *
  * SCHEMAS is a file with the names of the schemas, one per line, in the order of their numbers. conformance/README.md
  * specifies a line. Streams are read by pendratsoa_reader.h, records by pendratsoa_messages.h. C has no call for the
- * lines of the kinds `as` and `message`, and no text for those of the kinds `too_long` and `name`. An arena names a
- * field by its record and its number, so a path is looked up here. The last line is 'N passed, M failed'.
+ * lines of the kinds `as` and `message`, and no text for those of the kinds `too_long` and `name`; a line of no kind
+ * fails. An arena names a field by its record and its number, so a path is looked up here. The last line is 'N passed,
+ * M failed'.
  */
 #define _POSIX_C_SOURCE 200809L
 #include <pendratsoa_messages.h>
@@ -769,7 +770,9 @@ static void limit(void) {
 static const struct kind_of_line kinds[] = {{"items", items},       {"read", read_messages}, {"compare", compare},
                                             {"mismatch", mismatch}, {"replay", replay},      {"encode", encode},
                                             {"decode", decode},     {"json", json},          {"number", number},
-                                            {"limit", limit},       {"rest", rest},          {"new", new_message}};
+                                            {"limit", limit},       {"rest", rest},          {"new", new_message},
+                                            {"as", NULL},           {"message", NULL},       {"too_long", NULL},
+                                            {"name", NULL}};
 
 static int check_line(char *line) { return check_words(line, kinds, sizeof kinds / sizeof *kinds); }
 

@@ -2,8 +2,9 @@
  * Checks the test vectors on the standard input by the calls of pendratsoa.h: test_vectors SCHEMAS < LINES
  *
  * SCHEMAS is a file with the names of the schemas, one per line, in the order of their numbers. conformance/README.md
- * specifies a line; a line of the kind `record` has no call. Each stream is also read byte by byte, each JSON is read
- * as the canonical payload, and fields are written as the payload again. The last line is 'N passed, M failed'.
+ * specifies a line; a line of the kind `record` has no call, and one of no kind fails. Each stream is also read byte by
+ * byte, each JSON is read as the canonical payload, and fields are written as the payload again. The last line is
+ * 'N passed, M failed'.
  */
 #define _POSIX_C_SOURCE 200809L
 #include <pendratsoa_reader.h>
@@ -276,7 +277,8 @@ static void replay_lines(void) {
 
 static const struct kind_of_line kinds[] = {{"payload", payload}, {"merge", merge},        {"frame", frame},
                                             {"stream", stream},   {"compare", compare},    {"json", json},
-                                            {"read", read_json},  {"fields", fields},      {"replay", replay_lines}};
+                                            {"read", read_json},  {"fields", fields},      {"replay", replay_lines},
+                                            {"record", NULL}};
 
 static int check_line(char *line) { return check_words(line, kinds, sizeof kinds / sizeof *kinds); }
 

@@ -123,29 +123,39 @@ static inline void list_item(struct buffer *listing, const struct journal_item *
     append_text(listing, text);
 }
 
-/* What checks the lines of a kind. */
+/* What checks the lines of a kind; null of a kind that C has nothing for. */
 struct kind_of_line {
     const char *kind;
     void (*check)(void);
 };
 
-/* Checks a line: 1 if it passed, 0 if it failed, and -1 if it is not checked. */
+/* Checks a line: 1 if it passed, 0 if it failed, and -1 if it is not checked. One of no kind fails. */
 static int check_words(char *line, const struct kind_of_line *kinds, size_t count) {
     char *expected = strstr(line, " = ");
     const char *kind;
 
-    if (line[0] == '#' || expected == NULL) {
+    if (line[0] == '#' || line[0] == '\0') {
         return -1;
+    }
+    found.length = 0;
+    append(&found, NULL, 0);
+    if (expected == NULL) {
+        append_text(&found, "no result in the line");
+        return 0;
     }
     *expected = '\0';
     expected += strlen(" = ");
     kind = strtok(line, " ");
-    for (size_t i = 0; i < count; i++) {
-        if (strcmp(kind, kinds[i].kind) == 0) {
-            found.length = 0;
-            kinds[i].check();
-            return found.length == strlen(expected) && memcmp(found.bytes, expected, found.length) == 0;
+    for (size_t i = 0; kind != NULL && i < count; i++) {
+        if (strcmp(kind, kinds[i].kind) != 0) {
+            continue;
         }
+        if (kinds[i].check == NULL) {
+            return -1;
+        }
+        kinds[i].check();
+        return found.length == strlen(expected) && memcmp(found.bytes, expected, found.length) == 0;
     }
-    return -1;
+    append_text(&found, "no such kind of line");
+    return 0;
 }
