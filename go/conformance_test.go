@@ -50,8 +50,13 @@ func TestConformance(t *testing.T) {
 			}
 		}
 	}
-	if passed+failed < 13_000 {
-		t.Errorf("there are %d test vectors", passed+failed)
+	// a release is tried with a part of them, whose number it gives
+	least := 13_000
+	if given, isGiven := os.LookupEnv("TEST_VECTORS"); isGiven {
+		least = must(strconv.Atoi(given))(t)
+	}
+	if passed+failed < least {
+		t.Errorf("there are %d test vectors, and not %d", passed+failed, least)
 	}
 	fmt.Printf("%d passed, %d failed\n", passed, failed)
 }

@@ -19,7 +19,8 @@ class TestConformance < Minitest::Test
     end
     # on a line of its own, after the dots of other tests
     puts "", "#{passed} passed, #{failed} failed"
-    assert_operator passed, :>, 13_000
+    # a release is tried with a part of them, whose number it gives
+    assert_operator passed, :>=, Integer(ENV.fetch("TEST_VECTORS", 13_000))
     assert_equal 0, failed
   end
 
