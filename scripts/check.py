@@ -51,6 +51,7 @@ MINUTES_BEFORE_RELEASE = 120
 SECONDS_TO_END = 60
 
 COUNTS = re.compile(r"^(\d+) passed, (\d+) failed$", re.MULTILINE)
+NOT_RUN = re.compile(r": not (run|made), since ")
 
 
 @dataclasses.dataclass(frozen=True)
@@ -78,6 +79,8 @@ class Ended:
         found = COUNTS.findall(self.text)
         if not found or (self.status != 0 and found[-1][1] == "0"):
             return f"{self.command}, status {self.status}"
+        if found[-1] == ("0", "0") and not NOT_RUN.search(self.text):
+            return f"{self.command} counts nothing, and does not say what is not run"
         return None
 
 

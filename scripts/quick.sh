@@ -16,39 +16,31 @@ for name in "$@"; do
     exit 2
   fi
 done
-work=$(mktemp -d) || exit 1
-trap 'rm -rf "$work"' EXIT
-passed=0
-failed=0
+. scripts/checks/lib.sh
 
-# counted NAME: adds the 'N passed, M failed' at the end of $work/NAME, and shows what is above it
-counted() {
-  sed '$d' "$work/$1"
-  counts=$(sed -n '$p' "$work/$1" | grep -E '^[0-9]+ passed, [0-9]+ failed$')
-  if [ -z "$counts" ]; then
-    sed -n '$p' "$work/$1"
-    echo "failed: $1"
-    counts='0 passed, 1 failed'
+# shown NAME STATUS: shows what is in $work/NAME, which a check printed that ended with this status, and adds its counts
+shown() {
+  sed '/^[0-9]* passed, [0-9]* failed$/d' "$work/$1"
+  counts=$(sed -n '$p' "$work/$1")
+  if ! tallied "$2" "$work/$1"; then
+    echo "failed: $1, status $2"
+    failed=$((failed + 1))
   fi
-  passed=$((passed + ${counts%% *}))
-  counts=${counts#*, }
-  failed=$((failed + ${counts%% *}))
 }
 
-# two at a time
+# two at a time; a signal from the terminal does not reach what is not waited for
 sh scripts/checks/tests.sh "$@" > "$work/tests" 2>&1 &
-for check in layout planted table calls pages words generated description; do
+tests=$!
+trap 'kill $tests 2> /dev/null; rm -rf "$work"' EXIT
+for check in layout planted table calls pages words generated description conformance; do
   if [ -e "scripts/checks/$check.py" ]; then
     python3 -B "scripts/checks/$check.py"
   else
     sh "scripts/checks/$check.sh"
   fi > "$work/$check" 2>&1
-  counted "$check"
+  shown "$check" $?
 done
-sh scripts/checks/conformance.sh > "$work/conformance" 2> /dev/null
-counted conformance
-wait
-counted tests
-
-echo "$passed passed, $failed failed"
-[ "$failed" -eq 0 ]
+wait $tests
+shown tests $?
+tests=
+finish

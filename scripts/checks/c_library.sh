@@ -47,12 +47,14 @@ schemas() {
 
 # test_vectors FILE..: the test vectors of these files, by the C calls
 test_vectors() {
-  cat "$@" > "$work/lines"
+  cat "$@" > "$work/lines" 2> "$err"
+  outcome 'the lines of the test vectors' $?
   compiled 'test_vectors.c' -std=c99 -Wpedantic -Wconversion tests/c/test_vectors.c "$prefix/lib/libpendratsoa.a" \
     -o "$work/test_vectors"
   schemas
   # shellcheck disable=SC2086 # the words are split
   counted 'the test vectors' $emulator "$work/test_vectors" "$work/schemas" < "$work/lines"
+  counts_lines "$work/lines" record
 }
 
 # package_cases: the cases of conformance/packages.cases, by the headers of C
@@ -62,18 +64,17 @@ package_cases() {
   schemas
   # shellcheck disable=SC2086 # the words are split
   counted 'the cases of packages' $emulator "$work/test_packages" "$work/schemas" < conformance/packages.cases
+  counts_lines conformance/packages.cases 'as|message|too_long|name'
 }
 
-# numbering_cases: the cases of conformance/numberings.cases, and that none of them is left out
+# numbering_cases: the cases of conformance/numberings.cases
 numbering_cases() {
   compiled 'test_numberings.c' -std=c99 -Wpedantic -Wconversion tests/c/test_numberings.c \
     "$prefix/lib/libpendratsoa.a" -o "$work/test_numberings"
   schemas
   # shellcheck disable=SC2086 # the words are split
   counted 'the cases of numberings' $emulator "$work/test_numberings" "$work/schemas" < conformance/numberings.cases
-  echo "$(grep -c '^[^#]' conformance/numberings.cases) passed, 0 failed" > "$work/wanted"
-  echo "$counts" > "$work/out"
-  same 'how many cases of numberings there are' "$work/wanted" "$work/out"
+  counts_lines conformance/numberings.cases
 }
 
 # compile_hostile_calls: tests/c/hostile_calls.c as $work/hostile
@@ -93,9 +94,11 @@ message_structs() {
     compiled "$program.c $*" $strict "$@" tests/c/$program.c "$prefix/lib/libpendratsoa.a" -o "$work/$program"
   done
   schemas
-  cat conformance/*.txt conformance/json/*.txt > "$work/lines"
+  cat conformance/*.txt conformance/json/*.txt > "$work/lines" 2> "$err"
+  outcome 'the lines of the structs' $?
   # shellcheck disable=SC2086 # the words are split
   counted "the structs by the test vectors $*" $emulator "$work/test_messages" "$work/schemas" < "$work/lines"
+  counts_lines "$work/lines" 'merge|frame|stream|compare|read'
   # shellcheck disable=SC2086 # the words are split
   case_of "$calls adversarial calls of the structs $*" $emulator "$work/hostile_messages" "$work/schemas" 1 "$calls" \
     < "$work/lines"

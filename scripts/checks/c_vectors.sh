@@ -6,7 +6,7 @@ cd "$(dirname "$0")/../.." || exit 1
 . scripts/checks/lib.sh
 . scripts/checks/c_library.sh
 
-cat > "$work/given"
+cat > "$work/given" || exit
 installed_library
 tools=
 emulator=

@@ -143,19 +143,22 @@ class Check:
 
     def counted(self, name: str, words: collections.abc.Sequence[str | pathlib.Path], **how: typing.Any) -> Run:
         """Adds what a command counts, whose last line is 'N passed, M failed', and shows what it says of failures and
-        of what is not run. It has failed too if it counts none and its status is not 0."""
+        of what is not run. It has failed too if it counts no failure and its status is not 0, or if it counts nothing
+        and does not say what is not run."""
         ended = run(words, **how)
-        for line in re.findall(rb"^.*: not (?:run|made), since .*$", ended.out, re.MULTILINE):
+        not_run = re.findall(rb"^.*: not (?:run|made), since .*$", ended.out, re.MULTILINE)
+        for line in not_run:
             print(line.decode("utf-8", "backslashreplace"))
         counts = re.search(rb"^(\d+) passed, (\d+) failed\n\Z", ended.out, re.MULTILINE)
         if not counts:
             self.case(name, False, ended)
             return ended
-        self.passed += int(counts[1])
-        self.failed += int(counts[2])
-        if int(counts[2]):
+        passed, failed = map(int, counts.groups())
+        self.passed += passed
+        self.failed += failed
+        if failed:
             print(beginning(ended.out), end="")
-        elif ended.status != 0:
+        elif ended.status != 0 or not (passed or not_run):
             self.case(name, False, ended)
         return ended
 

@@ -23,7 +23,8 @@ input() {
   find conformance conformance/replays -maxdepth 1 -name '*.txt' ! -name 'random_*' -exec cat {} +
 }
 
-input > "$work/lines"
+input > "$work/lines" 2> "$err"
+outcome 'the lines of the test vectors' $?
 unproved_crate vectors \
   shared_core shared_core_canonical shared_core_fields shared_core_fields_writer shared_core_codec shared_core_base \
   replay_bench bytes hex
@@ -40,4 +41,5 @@ status=$?
 [ "$status" -eq 1 ] && cmp -s "$out" tests/vectors/wrong_lines.found
 outcome 'wrong lines are found' $?
 counted 'the test vectors' "$work/program" < "$work/lines"
+counts_lines "$work/lines"
 finish

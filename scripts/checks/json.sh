@@ -21,6 +21,7 @@ PYTHONPATH=python
 PYTHONDONTWRITEBYTECODE=1
 export PYTHONPATH PYTHONDONTWRITEBYTECODE
 counted 'test vectors' python3 scripts/checks/conformance_calls.py < conformance/json/readings.txt
+counts_lines conformance/json/readings.txt
 counted 'json_judge.py' "$judge" scripts/checks/json_judge.py 1 100 < conformance/json/records.txt
 sed -n 's/^damaged texts: /json: damaged texts: /p' "$work/log"
 

@@ -83,8 +83,8 @@ within() {
   timeout --foreground "$@"
 }
 
-# counted NAME COMMAND..: a command whose last line is 'N passed, M failed', which are added to the tally, and which has
-# failed too if it counts no failure and its status is not 0; lines that say what is not run are shown
+# counted NAME COMMAND..: a command whose last line is 'N passed, M failed', which are added to the tally as `tallied`
+# does; lines that say what is not run are shown
 counted() {
   name=$1
   shift
@@ -92,12 +92,20 @@ counted() {
   ended=$?
   sed -n '/: not run, since /p' "$work/log"
   counts=$(sed -n '$p' "$work/log")
-  if ! add "$counts" || { [ $ended -ne 0 ] && [ "${counts##*, }" = '0 failed' ]; }; then
+  if ! tallied $ended "$work/log"; then
     head -n 20 "$work/log"
     outcome "$name" 1
   elif [ "${counts##*, }" != '0 failed' ]; then
     head -n 20 "$work/log"
   fi
+}
+
+# counts_lines FILE [KINDS]: the command that was counted last has passed on each line of a file, except comments and
+# the lines of these other kinds, as 'record|fields'
+counts_lines() {
+  echo "$(grep -cvE "^(#|\$${2:+|($2) })" "$1") passed, 0 failed" > "$work/wanted"
+  echo "$counts" > "$out"
+  same "$name: how many lines there are" "$work/wanted" "$out"
 }
 
 # static_library: the proved static library for C is crates/journal_ffi/out/libjournal_ffi.a; where it cannot be built
@@ -167,6 +175,17 @@ said() {
   [ "$status" -eq "$1" ] && cmp -s "$err" "$work/line"
 }
 
+# tallied STATUS FILE: adds $counts to the tally, the 'N passed, M failed' of a command that ended with this status and
+# printed this file. The status is 1 where it has failed and has not counted that: where it counts nothing and does not
+# say what is not run, too.
+tallied() {
+  add "$counts" || return 1
+  case $counts in
+    *', 0 failed') [ "$1" -eq 0 ] || return 1 ;;
+  esac
+  [ "$counts" != '0 passed, 0 failed' ] || grep -qE ': not (run|made), since ' "$2"
+}
+
 # add COUNTS: adds 'N passed, M failed' to the tally; the status is 1 where that is not what it is
 add() {
   case $1 in
@@ -210,10 +229,13 @@ processor_seconds() {
   seconds=$(tr 'ms' '  ' < "$work/times" | awk 'NR == 2 { printf "%d", 60 * $1 + $2 + 60 * $3 + $4 }')
 }
 
-# stage COMMAND..: runs a command, shows what it prints and its CPU time, and adds its last 'N passed, M failed'
+# stage COMMAND..: runs a command, shows what it prints and its CPU time, and adds its last 'N passed, M failed', as
+# `tallied` does
 stage() {
   processor_seconds
   before=$seconds
+  # none is there of a shell that does not come to its end
+  : > "$work/stage.status"
   {
     "$@"
     echo "$?" > "$work/stage.status"
@@ -222,7 +244,7 @@ stage() {
   processor_seconds
   echo "$*: $((seconds - before)) processor seconds"
   counts=$(awk '/^[0-9]+ passed, [0-9]+ failed$/ { line = $0 } END { print line }' "$work/stage")
-  if ! add "$counts" || { [ "$status" -ne 0 ] && [ "${counts##*, }" = '0 failed' ]; }; then
+  if ! tallied "${status:-1}" "$work/stage"; then
     echo "failed: $*, status $status"
     failed=$((failed + 1))
   fi

@@ -1,7 +1,7 @@
 #!/usr/bin/env python3
 """How mutants are tried together: which function each changes, and what the prover's lines say of it. And which of them
 are left out, since they were refused over the same sources. And that a check has failed that does not end, or of which
-a command fails and counts no failure.
+a command fails and counts no failure, or counts nothing.
 
 It needs no prover: what a check prints is given.
 """
@@ -436,6 +436,10 @@ CHECKS = {
         . {folder}/lib.sh
         counted 'a command' sh -c 'echo 2 passed, 0 failed; exit 3'
         counted 'another' echo 1 passed, 0 failed
+        counted 'nothing' echo 0 passed, 0 failed
+        counted 'what is absent' printf '%s\\n' 'it: not run, since there is none' '0 passed, 0 failed'
+        stage sh -c 'echo 0 passed, 0 failed'
+        stage eval 'echo 4 passed, 0 failed; exit 0'
         finish
         """,
     "counts_too.py": """\
@@ -445,8 +449,13 @@ CHECKS = {
         def counts(check):
             check.counted("a command", ["sh", "-c", "echo 2 passed, 0 failed; exit 3"])
             check.counted("another", ["echo", "1 passed, 0 failed"])
+            check.counted("nothing", ["echo", "0 passed, 0 failed"])
+            absent = "it: not run, since there is none"
+            check.counted("what is absent", ["printf", r"%s\\n", absent, "0 passed, 0 failed"])
         checks.perform(counts)
         """,
+    "nothing.sh": "echo '0 passed, 0 failed'\n",
+    "absent.sh": "echo 'absent: not run, since there is none'; echo '0 passed, 0 failed'\n",
 }
 
 
@@ -494,8 +503,11 @@ class ChecksTest(unittest.TestCase):
         self.assertTrue(has_ended.poll(10_000), "something runs")
 
     def test_status_of_what_counts(self) -> None:
-        for name in ("counts", "counts_too"):
-            self.assertEqual(self.told(name)[-1], "3 passed, 1 failed", name)
+        for name, counts in (("counts", "7 passed, 4 failed"), ("counts_too", "3 passed, 2 failed")):
+            self.assertEqual(self.told(name)[-1], counts, name)
+
+    def test_nothing_is_counted(self) -> None:
+        self.assertEqual(self.told("nothing", "absent")[-1], "0 passed, 1 failed")
 
 
 if __name__ == "__main__":

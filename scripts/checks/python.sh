@@ -86,10 +86,13 @@ for way in '' 1; do
   done
 done
 case_of 'the tests of the example' python3 -m unittest discover -s examples/python
-cat conformance/*.txt conformance/json/*.txt > "$work/lines"
-counted 'the test vectors' python3 scripts/checks/conformance_calls.py < "$work/lines"
-counted 'the test vectors, without the compiled module' \
-  env PENDRATSOA_PURE=1 python3 scripts/checks/conformance_calls.py < "$work/lines"
+cat conformance/*.txt conformance/json/*.txt > "$work/lines" 2> "$err"
+outcome 'the lines of the test vectors' $?
+for way in '' 1; do
+  counted "the test vectors${way:+, without the compiled module}" \
+    env PENDRATSOA_PURE=$way python3 scripts/checks/conformance_calls.py < "$work/lines"
+  counts_lines "$work/lines" 'record|fields'
+done
 # python_of PAGE: its blocks of Python
 python_of() {
   awk '/^```python$/ { inside = 1; next } /^```$/ { inside = 0 } inside' "$1"
