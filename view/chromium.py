@@ -7,7 +7,7 @@ import select
 import subprocess
 import time
 
-from driver import SECONDS, Browser, TooLate
+from driver import SECONDS, Browser, Ended, TooLate
 
 # What a key is to the protocol, where its name is not its character.
 NAMED_KEYS = {"Enter": "\r", "Escape": "", "ArrowDown": "", "ArrowUp": "", "Home": "", "End": "", "Tab": ""}
@@ -62,7 +62,7 @@ class Chromium(Browser):
                 raise TooLate("the browser says nothing")
             data = os.read(self.input, 1 << 20)
             if not data:
-                raise RuntimeError("the browser has ended")
+                raise Ended("the browser has ended")
             self.pending += data
         text, self.pending = self.pending.split(b"\0", 1)
         return text

@@ -15,6 +15,10 @@ class NotHere(Exception):
     """Why a browser cannot be driven here."""
 
 
+class Ended(RuntimeError):
+    """A browser that has ended by itself."""
+
+
 class TooLate(RuntimeError):
     """What did not come in time. A browser that is slow is there, so this is never a reason to run nothing."""
 
@@ -32,16 +36,20 @@ class Browser:
         self.last = self.loads = 0
         self.messages, self.requests = [], []
         self.process = None
+        self.has_answered = False
         if not shutil.which(self.program):
             raise NotHere(f"there is no {self.program}, which the Debian package of this name has")
         try:
             self.start()
-        except (TooLate, TimeoutError):
+        except (Ended, BrokenPipeError) as error:
+            self.__exit__()
+            # after an answer it is a fault of the browser or of what drives it
+            if self.has_answered:
+                raise
+            raise NotHere(f"{self.program} does not start here: {error}") from error
+        except BaseException:
             self.__exit__()
             raise
-        except (OSError, RuntimeError) as error:
-            self.__exit__()
-            raise NotHere(f"{self.program} does not start here: {error}") from error
         self.resize(width, height)
 
     def __enter__(self):
@@ -70,6 +78,7 @@ class Browser:
         while True:
             received = self.received()
             if received.get("id") == self.last:
+                self.has_answered = True
                 if "error" in received:
                     raise RuntimeError(f"{method}: {received.get('message') or received['error']['message']}")
                 return received["result"]

@@ -8,7 +8,7 @@ import socket
 import subprocess
 import time
 
-from driver import SECONDS, Browser, TooLate
+from driver import SECONDS, Browser, Ended, TooLate
 
 # What a key is to the protocol, where its name is not its character.
 NAMED_KEYS = {
@@ -71,7 +71,7 @@ class Firefox(Browser):
         while not (found := re.search(rb"listening on ws://127\.0\.0\.1:(\d+)\n", log.read_bytes())):
             said = " ".join(log.read_text(errors="replace").split())[-300:]
             if self.process.poll() is not None:
-                raise RuntimeError(said)
+                raise Ended(said)
             if time.monotonic() > until:
                 raise TooLate(f"the browser names no port: {said}")
             time.sleep(0.05)
@@ -110,7 +110,7 @@ class Firefox(Browser):
             size = {126: 2, 127: 8}.get(length)
             part = self.taken(int.from_bytes(self.taken(size), "big") if size else length)
             if kind & 0xF == CLOSED:
-                raise RuntimeError("the browser has ended")
+                raise Ended("the browser has ended")
             # others than texts and what continues them say nothing
             if kind & 0xF <= TEXT:
                 text += part
@@ -127,7 +127,7 @@ class Firefox(Browser):
             except TimeoutError:
                 raise TooLate("the browser says nothing") from None
             if not part:
-                raise RuntimeError("the browser has ended")
+                raise Ended("the browser has ended")
             parts.append(part)
             missing -= len(part)
         data = b"".join(parts)
