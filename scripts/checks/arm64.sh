@@ -43,40 +43,45 @@ stream_reader
 message_example "$prefix/lib/libpendratsoa.a"
 replay_example "$prefix/lib/libpendratsoa.a"
 
-# printed EMULATOR.. PROGRAM WORD..: all that a program prints, and its status
+# printed EMULATOR.. PROGRAM WORD..: all that a program prints, and its status on a line of its own
 printed() {
   (cd examples/streams && "$@" 2>&1 < /dev/null)
-  echo "status $?"
+  printf '\nstatus %s\n' $?
 }
 
-# alike NAME WORD..: a program prints the same on both processors, on the standard error too, with the same status
+# alike STATUS NAME WORD..: a program ends with this status on both processors, and prints the same, on the standard
+# error too
 alike() {
-  name=$1
-  shift
+  wanted=$1
+  name=$2
+  shift 2
   printed "$PWD/crates/$name/out/$name" "$@" > "$work/wanted"
   # shellcheck disable=SC2086 # the words are split
   printed $emulator "$prefix/bin/$name" "$@" > "$out"
   same "$name $*" "$work/wanted" "$out"
+  [ "$(sed -n '$p' "$out")" = "status $wanted" ]
+  outcome "the status of $name $*" $?
 }
 
-alike journal_list replay
-alike journal_list replay 7 v9
-alike journal_list ./nothing
-alike journal_list --max-message 3 replay
-alike journal_list --help
-for file in replay cut_short unknown_type three_unknown_types; do
-  alike journal dump --strict $file
+alike 0 journal_list replay
+alike 0 journal_list replay 7 v9
+alike 2 journal_list ./nothing
+alike 1 journal_list --max-message 3 replay
+alike 0 journal_list --help
+alike 0 journal dump --strict replay
+for file in cut_short unknown_type three_unknown_types; do
+  alike 2 journal dump --strict $file
 done
-alike journal show recorded
-alike journal show --failures cut_short
-alike journal make replay.dump
-alike journal diff recorded replayed_other_handler
-alike journal diff --all --json recorded replayed_other_handler
-alike journal diff recorded ./nothing
-NO_COLOR=1 alike journal diff --color always recorded replayed_other_payload
+alike 0 journal show recorded
+alike 0 journal show --failures cut_short
+alike 0 journal make replay.dump
+alike 1 journal diff recorded replayed_other_handler
+alike 1 journal diff --all --json recorded replayed_other_handler
+alike 2 journal diff recorded ./nothing
+NO_COLOR=1 alike 1 journal diff --color always recorded replayed_other_payload
 # shellcheck disable=SC2086 # the words are split
-$emulator "$prefix/bin/journal_dump" examples/streams/replay > "$out"
-same 'journal_dump of the replay' examples/streams/replay.dump "$out"
+prints 'journal_dump of the replay' examples/streams/replay.dump $emulator "$prefix/bin/journal_dump" \
+  examples/streams/replay
 
 # The example, with each library
 for listing in static shared; do
@@ -87,8 +92,8 @@ for listing in static shared; do
   compiled "the listing with the $listing library" -std=c99 -Wpedantic -Wconversion examples/c/listing.c "$library" \
     -o "$work/$listing"
   # shellcheck disable=SC2086 # the words are split
-  $emulator -E LD_LIBRARY_PATH="$prefix/lib" "$work/$listing" < examples/streams/replay > "$out" 2> "$err"
-  same "what the listing with the $listing library prints" examples/streams/replay.stdout "$out"
+  prints "what the listing with the $listing library prints" examples/streams/replay.stdout \
+    $emulator -E LD_LIBRARY_PATH="$prefix/lib" "$work/$listing" < examples/streams/replay
 done
 
 finish

@@ -50,21 +50,19 @@ if command -v pkg-config > /dev/null; then
   # shellcheck disable=SC2046 # the flags are split
   case_of 'the program of docs/C.md' cc -std=c99 -Wall -Wextra -Wpedantic -Wconversion -Werror "$work/page.c" \
     $(PKG_CONFIG_PATH=$plain/lib/pkgconfig pkg-config --cflags --libs pendratsoa) -o "$work/page"
-  LD_LIBRARY_PATH=$prefix/lib "$work/page" > "$work/out" 2> "$work/err"
-  same 'what it prints' "$work/wanted" "$work/out"
+  prints 'what it prints' "$work/wanted" env LD_LIBRARY_PATH="$prefix/lib" "$work/page"
   for number in 2 3 4; do
     # shellcheck disable=SC2046 # the flags are split
     case_of "program $number of docs/C.md" cc -std=c99 -Wall -Wextra -Wpedantic -Wconversion -Werror \
       "$work/page_$number.c" $(PKG_CONFIG_PATH=$plain/lib/pkgconfig pkg-config --cflags --libs pendratsoa) \
       -o "$work/page_$number"
-    LD_LIBRARY_PATH=$prefix/lib "$work/page_$number" > "$work/out" 2> "$work/err"
-    same "what program $number of docs/C.md prints" "$work/wanted_$number" "$work/out"
+    prints "what program $number of docs/C.md prints" "$work/wanted_$number" \
+      env LD_LIBRARY_PATH="$prefix/lib" "$work/page_$number"
   done
   # shellcheck disable=SC2046 # the flags are split
   case_of 'the program of docs/C.md, linked statically' cc -static "$work/page.c" \
     $(PKG_CONFIG_PATH=$plain/lib/pkgconfig pkg-config --static --cflags --libs pendratsoa) -o "$work/page"
-  "$work/page" > "$work/out" 2> "$work/err"
-  same 'what it prints, linked statically' "$work/wanted" "$work/out"
+  prints 'what it prints, linked statically' "$work/wanted" "$work/page"
 else
   without 'the program of docs/C.md' pkg-config
 fi
@@ -85,8 +83,7 @@ if command -v cmake > /dev/null && command -v make > /dev/null; then
   case_of 'cmake with docs/C.md' cmake -DCMAKE_PREFIX_PATH="$prefix" -S "$work/cmake" -B "$work/cmake/build"
   case_of 'cmake --build' cmake --build "$work/cmake/build"
   for program in frame frame_static; do
-    "$work/cmake/build/$program" > "$out" 2> "$err"
-    same "what $program by cmake prints" "$work/wanted" "$out"
+    prints "what $program by cmake prints" "$work/wanted" "$work/cmake/build/$program"
   done
 else
   without 'cmake with docs/C.md' 'cmake or make'
@@ -154,31 +151,30 @@ python=
 
 # listed NAME STREAM VERSION: the examples list a stream alike, and except the names after calls as the lister does
 listed() {
-  "$work/static" "$3" < "$2" > "$work/out" 2> "$work/err"
+  "$work/static" "$3" < "$2" > "$work/listed" 2> "$err"
   outcome "$1 at $3" $?
   python3 -B scripts/checks/list_stream.py "$3" < "$2" > "$work/listing"
-  sed 's/^\([A-Z][A-Za-z]*CallCommand\|CallCommand\) \([0-9]*\) .*/\1 \2/' "$work/out" > "$work/short"
+  sed 's/^\([A-Z][A-Za-z]*CallCommand\|CallCommand\) \([0-9]*\) .*/\1 \2/' "$work/listed" > "$work/short"
   same "$1 at $3, beside the lister" "$work/listing" "$work/short"
-  LD_LIBRARY_PATH=$prefix/lib "$work/shared" "$3" < "$2" > "$work/again" 2> "$work/err"
-  same "$1 at $3, by the shared library" "$work/out" "$work/again"
+  prints "$1 at $3, by the shared library" "$work/listed" env LD_LIBRARY_PATH="$prefix/lib" "$work/shared" "$3" < "$2"
   if [ -n "$python" ]; then
-    "$python" examples/python/listing.py "$3" < "$2" > "$work/again" 2> "$work/err"
-    same "$1 at $3, in Python" "$work/out" "$work/again"
+    prints "$1 at $3, in Python" "$work/listed" "$python" examples/python/listing.py "$3" < "$2"
   fi
 }
 
 listed 'a replay' examples/streams/replay 8
 listed 'a recorded journal' examples/streams/recorded 8
-grep -qx 'CallCommand 27 "Greeter" "greet"' "$work/out"
+grep -qx 'CallCommand 27 "Greeter" "greet"' "$work/listed"
 outcome 'the names of a call' $?
 listed 'an unknown type' examples/streams/unknown_type 9
 # names whose lengths take two and three bytes as varints
-python3 -B scripts/checks/write_stream.py names 20000 7 > "$work/long"
+python3 -B scripts/checks/write_stream.py names 20000 7 > "$work/long" 2> "$err"
+outcome 'write_stream.py names' $?
 listed 'long names' "$work/long" 8
 awk -v length_of_call=$(($(wc -c < "$work/long") - 8)) 'BEGIN { while (i++ < 200) a = a "a"
   for (i = 0; i < 20000; i++) b = b "b"
   printf "CallCommand %d \"%s\" \"%s\"\nrest 0\n", length_of_call, a, b }' > "$work/wanted"
-same 'the names of a call with long names' "$work/wanted" "$work/out"
+same 'the names of a call with long names' "$work/wanted" "$work/listed"
 for kind in random mixed skipped; do
   python3 -B scripts/checks/write_stream.py $kind 200000 7 > "$work/$kind"
   outcome "write_stream.py $kind" $?

@@ -133,8 +133,8 @@ message_example() {
     compiled "examples/c/messages.c with ${library##*/}" -std=c99 -Wpedantic -Wconversion examples/c/messages.c \
       "$library" -o "$work/messages"
     # shellcheck disable=SC2086 # the words are split
-    LD_LIBRARY_PATH=$prefix/lib $emulator "$work/messages" 12 < "$work/stream" > "$out" 2> "$err"
-    same "what examples/c/messages.c writes with ${library##*/}" "$work/wanted" "$out"
+    prints "what examples/c/messages.c writes with ${library##*/}" "$work/wanted" \
+      env LD_LIBRARY_PATH="$prefix/lib" $emulator "$work/messages" 12 < "$work/stream"
     [ "$(cat "$err")" = 'state "counter", 1 bytes' ]
     outcome "what examples/c/messages.c says with ${library##*/}" $?
   done

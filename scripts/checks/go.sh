@@ -48,8 +48,7 @@ counted 'the test vectors' grep -xE '[0-9]+ passed, [0-9]+ failed' "$work/tests"
 # listed STREAM VERSION: the example lists a stream as list_stream.py does
 listed() {
   python3 -B "$top/scripts/checks/list_stream.py" "$2" < "$work/examples/streams/$1" > "$work/listing"
-  "$work/listing_program" "$2" < "$work/examples/streams/$1" > "$out" 2> "$err"
-  same "the listing of $1" "$work/listing" "$out"
+  prints "the listing of $1" "$work/listing" "$work/listing_program" "$2" < "$work/examples/streams/$1"
 }
 case_of 'the example' go build -o "$work/listing_program" ./examples/listing
 listed replay 8
@@ -74,23 +73,28 @@ awk -v page="$work/go/page/main.go" -v part="$work/part" -v compare="$work/go/co
   /^```$/ { file = "" }
   file != "" { print > file }' README.md
 sed -n '/^Of `examples/,/^[A-Z] /s/^    //p' README.md > "$work/wanted"
-go run ./page < "$work/examples/streams/replay" > "$out" 2> "$err"
-same 'the program of go/README.md' "$work/wanted" "$out"
+prints 'the program of go/README.md' "$work/wanted" go run ./page < "$work/examples/streams/replay"
 sed -n '/^Of `recorded/,/^|/s/^    //p' README.md > "$work/wanted"
-go run ./compare "$work/examples/streams/recorded" "$work/examples/streams/replayed_other_payload" > "$out" 2> "$err"
-same 'the program of go/README.md that compares' "$work/wanted" "$out"
-python3 -B "$top/scripts/checks/write_numbering.py" "$work/go"
-go run ./other < theirs > "$out" 2> "$err"
+prints 'the program of go/README.md that compares' "$work/wanted" \
+  go run ./compare "$work/examples/streams/recorded" "$work/examples/streams/replayed_other_payload"
+case_of 'write_numbering.py' python3 -B "$top/scripts/checks/write_numbering.py" "$work/go"
 sed -n '/^Of a set/,/^[A-Z]/s/^    //p' README.md > "$work/wanted"
-same 'the program of go/README.md that reads other field numbers' "$work/wanted" "$out"
+prints 'the program of go/README.md that reads other field numbers' "$work/wanted" go run ./other < theirs
 case_of 'the proxy of go/README.md' python3 -B "$top/scripts/checks/is_part.py" "$work/part" examples/proxy/main.go
 case_of 'the replay of go/README.md' python3 -B "$top/scripts/checks/is_part.py" "$work/replay" example_test.go
 case_of 'the errors of go/README.md' python3 -B "$top/scripts/checks/is_part.py" "$work/errors" example_test.go
 
+# racing: runs tests with the race detector, some at least
+racing() {
+  go test -race -v -run Goroutines . > "$work/tests"
+  ended=$?
+  cat "$work/tests"
+  [ $ended -eq 0 ] && grep -q '^--- PASS: ' "$work/tests"
+}
 mkdir "$work/bare"
 printf 'package main\n\nfunc main() {}\n' > "$work/bare/main.go"
 if go run -race "$work/bare/main.go" > "$work/race" 2>&1; then
-  case_of 'goroutines with the race detector' go test -race -run Goroutines .
+  case_of 'goroutines with the race detector' racing
 else
   left_out 'goroutines with the race detector' 'it does not work here'
 fi

@@ -67,6 +67,29 @@ same() {
   fi
 }
 
+# prints NAME FILE COMMAND..: counts a case that is a command, which passed where its status is 0 and it prints what is
+# in a file, which is not empty
+prints() {
+  name=$1
+  expected=$2
+  shift 2
+  "$@" > "$out" 2> "$err"
+  status=$?
+  if [ $status -eq 0 ]; then
+    same "$name" "$expected" "$out"
+  else
+    outcome "$name" 1
+  fi
+  status=
+}
+
+# inside FOLDER COMMAND..: runs a command in a folder
+inside() (
+  cd "$1" || exit
+  shift
+  "$@"
+)
+
 # case_of NAME COMMAND..: counts a case that is a command, which passed where its status is 0
 case_of() {
   name=$1

@@ -130,15 +130,16 @@ if command -v tsc > /dev/null; then
   case_of 'the example in C' cc -std=c99 -I "$prefix/include" examples/c/listing.c "$prefix/lib/libpendratsoa.a" \
     -o "$work/listing"
   for stream in replay:8 recorded:8 cut_short:8 three_unknown_types:8 unknown_type:9; do
-    "$work/listing" "${stream#*:}" < "examples/streams/${stream%:*}" > "$work/wanted"
-    node "$user/listing.mjs" "${stream#*:}" < "examples/streams/${stream%:*}" > "$out" 2> "$err"
-    same "the listing of $stream" "$work/wanted" "$out"
+    "$work/listing" "${stream#*:}" < "examples/streams/${stream%:*}" > "$work/wanted" 2> "$err"
+    outcome "the listing of $stream in C" $?
+    prints "the listing of $stream" "$work/wanted" node "$user/listing.mjs" "${stream#*:}" \
+      < "examples/streams/${stream%:*}"
   done
   python3 -B scripts/checks/write_stream.py mixed 100000 7 > "$work/mixed"
   outcome 'write_stream.py' $?
-  "$work/listing" < "$work/mixed" > "$work/wanted"
-  node "$user/listing.mjs" < "$work/mixed" > "$out" 2> "$err"
-  same 'the listing of a mixed stream' "$work/wanted" "$out"
+  "$work/listing" < "$work/mixed" > "$work/wanted" 2> "$err"
+  outcome 'the listing of a mixed stream in C' $?
+  prints 'the listing of a mixed stream' "$work/wanted" node "$user/listing.mjs" < "$work/mixed"
   refused 'the listing with wrong words' 'usage: listing.mjs [5..9]' node "$user/listing.mjs" 10
   counted 'the replays' python3 -B scripts/checks/replayed.py node "$user/replay.mjs"
   counted 'the proxy' python3 -B scripts/checks/proxied.py --pipe node "$user/proxy.mjs"
@@ -160,20 +161,17 @@ if command -v tsc > /dev/null; then
   types 'the programs of node/README.md in TypeScript' --noEmit "$user"/typed_*.mts
 fi
 ln -s "$PWD/examples" "$user/examples"
-(cd "$user" && node page.mjs) > "$work/log" 2> "$err"
+case_of 'the program of node/README.md' inside "$user" node page.mjs
 sed -n 1p "$work/log" > "$out"
 sed -n 's/^It prints `\(.*\)` first\..*/\1/p' node/README.md > "$work/wanted"
-same 'the program of node/README.md' "$work/wanted" "$out"
-(cd "$user" && node compare.mjs) > "$out" 2> "$err"
+same 'what it prints first' "$work/wanted" "$out"
 sed -n 's/^It prints `\(.*\)`\.$/\1/p' node/README.md > "$work/wanted"
-same 'the program of node/README.md that compares' "$work/wanted" "$out"
-(cd "$user" && node replay.mjs) > "$out" 2> "$err"
+prints 'the program of node/README.md that compares' "$work/wanted" inside "$user" node compare.mjs
 sed -n 's/^Its line is `\(.*\)`\.$/\1/p' node/README.md > "$work/wanted"
-same 'the program of node/README.md that checks a replay' "$work/wanted" "$out"
-python3 -B scripts/checks/write_numbering.py "$user"
-(cd "$user" && node other.mjs) > "$out" 2> "$err"
+prints 'the program of node/README.md that checks a replay' "$work/wanted" inside "$user" node replay.mjs
+case_of 'write_numbering.py' python3 -B scripts/checks/write_numbering.py "$user"
 sed -n '/^Of a set/,/\.$/s/^`\(.*\)`\.$/\1/p' node/README.md > "$work/wanted"
-same 'the program of node/README.md that reads other field numbers' "$work/wanted" "$out"
+prints 'the program of node/README.md that reads other field numbers' "$work/wanted" inside "$user" node other.mjs
 
 # Another library in place of the proved one.
 copy later

@@ -69,23 +69,30 @@ fi
 
 # Imported in an empty environment.
 interpreter=$(python3 -c 'import sys; print(sys.executable)')
-(cd / && env -i PYTHONPATH="$site" PYTHONDONTWRITEBYTECODE=1 "$interpreter" -c \
-  'import pendratsoa; print(pendratsoa.__file__, pendratsoa.library_version(), pendratsoa.COMPILED)') > "$out" 2> "$err"
 echo "$site/pendratsoa/__init__.py $version $([ -n "$compiled" ] && echo True || echo False)" > "$work/wanted"
-same 'the package in an empty environment' "$work/wanted" "$out"
+prints 'the package in an empty environment' "$work/wanted" inside / \
+  env -i PYTHONPATH="$site" PYTHONDONTWRITEBYTECODE=1 "$interpreter" -c \
+  'import pendratsoa; print(pendratsoa.__file__, pendratsoa.library_version(), pendratsoa.COMPILED)'
+
+# tests FOLDER COMMAND..: an interpreter runs the tests of a folder by unittest, some at least
+tests() {
+  folder=$1
+  shift
+  "$@" -m unittest discover -s "$folder" && grep -q '^Ran [1-9]' "$err"
+}
 
 PYTHONPATH=$site
 export PYTHONPATH
 for way in '' 1; do
   without=${way:+, without the compiled module}
-  case_of "the tests$without" env PENDRATSOA_PURE=$way python3 -m unittest discover -s python/tests
+  case_of "the tests$without" tests python/tests env PENDRATSOA_PURE=$way python3
   for other in python3.9 python3.10 python3.11 python3.12 python3.13 python3.14; do
     if "$other" -c '' 2> /dev/null && [ "$("$other" --version)" != "$(python3 --version)" ]; then
-      case_of "the tests by $other$without" env PENDRATSOA_PURE=$way "$other" -m unittest discover -s python/tests
+      case_of "the tests by $other$without" tests python/tests env PENDRATSOA_PURE=$way "$other"
     fi
   done
 done
-case_of 'the tests of the example' python3 -m unittest discover -s examples/python
+case_of 'the tests of the example' tests examples/python python3
 cat conformance/*.txt conformance/json/*.txt > "$work/lines" 2> "$err"
 outcome 'the lines of the test vectors' $?
 for way in '' 1; do
@@ -128,8 +135,8 @@ for part in 1 3 4 5 6 7; do
     left_out 'the match of python/README.md' 'this python3 is older than 3.10'
     continue
   fi
-  (cd "$work/page" && python3 part$part.py) > "$out" 2> "$err"
-  same "the lines of python/README.md, part $part" "$work/page/part$part.wanted" "$out"
+  prints "the lines of python/README.md, part $part" "$work/page/part$part.wanted" inside "$work/page" \
+    python3 part$part.py
 done
 case_of 'the proxy of python/README.md' python3 -B scripts/checks/is_part.py "$work/page/part2.py" \
   examples/python/proxy.py
@@ -143,7 +150,7 @@ done
 # The pages of the API are made without the library.
 for name in pendratsoa pendratsoa.messages; do
   PENDRATSOA_LIBRARY=/nowhere PYTHONPATH=$PWD/python python3 -m pydoc $name > "$out" 2> "$err"
-  grep -q '^CLASSES$' "$out"
+  [ $? -eq 0 ] && grep -q '^CLASSES$' "$out"
   outcome "the page of $name without the library" $?
 done
 

@@ -8,9 +8,20 @@ set -u
 cd "$(dirname "$0")/../.." || exit 1
 . scripts/checks/lib.sh
 
+# has_library NAME: whether Ruby has a library; the check ends where Ruby fails otherwise
+has_library() {
+  ruby -e 'begin; require ARGV[0]; rescue LoadError; exit 3; end' "$1" > "$out" 2> "$err"
+  ended=$?
+  case $ended in
+    0 | 3) return $ended ;;
+  esac
+  outcome "a Ruby that looks for $1" 1
+  finish
+}
+
 needs ruby ruby
-ruby -rfiddle -e '' 2> "$err" || not_run 'this Ruby has no Fiddle'
-ruby -rminitest -e '' 2> "$err" || not_run 'there is no minitest; the Debian package ruby-minitest has it'
+has_library fiddle || not_run 'this Ruby has no Fiddle'
+has_library minitest || not_run 'there is no minitest; the Debian package ruby-minitest has it'
 installed_library
 
 # the tests read the other folders next to their own
@@ -68,7 +79,7 @@ done
 unset PENDRATSOA_PURE
 
 # The signatures, by what is given and returned while a program runs.
-if ruby -rrbs/test -e '' 2> "$err"; then
+if has_library rbs/test; then
   for way in '' 1; do
     case_of "the signatures${way:+, without the compiled module}" env PENDRATSOA_PURE=$way ruby test/typed.rb
   done
@@ -79,9 +90,9 @@ fi
 # The gem with the library in it needs neither this folder nor the environment. The example is run over it.
 # says_compiled NAME: whether the gem that is installed in GEM_HOME has the module, which works with its library
 says_compiled() {
-  ruby -rpendratsoa -e 'puts Pendratsoa::Value.decode("").encode.empty? && Pendratsoa::COMPILED' > "$out" 2> "$err"
   [ -n "$compiled" ] && echo true > "$work/wanted" || echo false > "$work/wanted"
-  same "the module of $1" "$work/wanted" "$out"
+  prints "the module of $1" "$work/wanted" \
+    ruby -rpendratsoa -e 'puts Pendratsoa::Value.decode("").encode.empty? && Pendratsoa::COMPILED'
 }
 
 if command -v gem > /dev/null; then
@@ -110,8 +121,7 @@ fi
 # listed STREAM VERSION: the example lists a stream as list_stream.py does
 listed() {
   python3 -B "$top/scripts/checks/list_stream.py" "$2" < "$work/examples/streams/$1" > "$work/listing"
-  ruby examples/listing.rb "$2" < "$work/examples/streams/$1" > "$out" 2> "$err"
-  same "the listing of $1" "$work/listing" "$out"
+  prints "the listing of $1" "$work/listing" ruby examples/listing.rb "$2" < "$work/examples/streams/$1"
 }
 counted 'the proxy' python3 -B "$top/scripts/checks/proxied.py" ruby -w examples/proxy.rb
 for way in '' 1; do
@@ -125,18 +135,20 @@ awk -v folder="$work" '
   /^```$/ { file = "" }
   file != "" { print > file }
 ' README.md
-(cd "$work" && ruby page1.rb) > "$work/log" 2> "$err"
+case_of 'the program of ruby/README.md' inside "$work" ruby page1.rb
 printf '%s\n' 'Start 19' 'InputCommand 9' 'GetLazyStateCompletionNotification 4' > "$work/wanted"
 cut -d ' ' -f 1,2 "$work/log" > "$out"
-same 'the program of ruby/README.md' "$work/wanted" "$out"
+same 'what it prints' "$work/wanted" "$out"
 case_of 'the proxy of ruby/README.md' python3 -B "$top/scripts/checks/is_part.py" "$work/page2.rb" examples/proxy.rb
 ruby -rpendratsoa -I test -rdescriptors -e 'print Descriptors::SMALL' > "$work/set.binpb"
 for part in 3 4 5 6; do
   case_of "the expressions of ruby/README.md, part $part" ruby -C "$work" -rpendratsoa -e '
-    File.foreach(ARGV[0]) do |line|
+    checked = File.foreach(ARGV[0]).count do |line|
       found, wanted = TOPLEVEL_BINDING.eval(line).inspect, line[/# => (.*)/, 1]
       abort "#{line}is #{found}" unless wanted.nil? || found == wanted
-    end' page$part.rb
+      wanted
+    end
+    abort "no line says what it is" if checked.zero?' page$part.rb
 done
 
 listed replay 8

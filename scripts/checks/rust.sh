@@ -9,8 +9,13 @@ cd "$(dirname "$0")/../.." || exit 1
 
 needs cargo cargo
 needs rustc rustc
-cargo --version > "$out" 2> "$err" || not_run 'cargo does not run'
-rustc --version > "$out" 2> "$err" || not_run 'rustc does not run'
+for tool in cargo rustc; do
+  $tool --version > "$out" 2> "$err" && continue
+  # the tools of rustup are there without a compiler
+  ! grep -q rustup "$err" || not_run "rustup has no toolchain with $tool"
+  outcome "$tool --version" 1
+  finish
+done
 needs pkg-config pkg-config
 installed_library
 
@@ -43,11 +48,26 @@ listed() {
   same "$1: the listing of $2 beside the lister" "$work/listing" "$out"
 }
 
+# tests WORD..: cargo runs tests, some at least
+tests() {
+  cargo test --quiet "$@" > "$work/tests"
+  ended=$?
+  cat "$work/tests"
+  [ $ended -eq 0 ] && grep -q '^test result: ok\. [1-9]' "$work/tests"
+}
+
+# has_part NAME: whether cargo has a part of its own; one that is there and fails is a case that has failed
+has_part() {
+  cargo "$1" --version > "$out" 2> "$err" && return
+  grep -qE 'no such (sub)?command|is not installed' "$err" || outcome "cargo $1" 1
+  return 1
+}
+
 # tested NAME: the tests, the test vectors and the example, by the cargo and the rustc on the path
 tested() {
   CARGO_TARGET_DIR=$work/target-$1
-  case_of "$1: the tests" cargo test --quiet --lib --tests
-  case_of "$1: the examples of the comments" cargo test --quiet --doc
+  case_of "$1: the tests" tests --lib --tests
+  case_of "$1: the examples of the comments" tests --doc
   counted "$1: the test vectors" cargo test --quiet --test conformance
   case_of "$1: the example" cargo build --quiet --example listing
   listed "$1" examples/streams/replay 8
@@ -124,12 +144,12 @@ unset PKG_CONFIG PENDRATSOA_STATIC
 # layout, lints (src/lib.rs asks for the pedantic ones) and pages; unsafe code is only in src/ffi.rs
 CARGO_TARGET_DIR=$work/target-lints
 case_of 'the pages of cargo doc' cargo doc --quiet --no-deps
-if cargo fmt --version > "$out" 2> "$err"; then
+if has_part fmt; then
   case_of 'the layout' cargo fmt --check
 else
   left_out 'the layout' 'there is no rustfmt; the Debian package rustfmt has it'
 fi
-if cargo clippy --version > "$out" 2> "$err"; then
+if has_part clippy; then
   case_of 'the lints' cargo clippy --quiet --all-targets -- -D warnings
 else
   left_out 'the lints' 'there is no clippy; the Debian package rust-clippy has it'
@@ -141,8 +161,8 @@ if ls -d $registry/tokio-util-0.7* > "$out" 2> "$err"; then
   cp -R "$top/rust/tokio" "$work/rust/"
   printf '[source.crates-io]\nreplace-with = "debian"\n\n[source.debian]\ndirectory = "%s"\n' $registry \
     > "$CARGO_HOME/config.toml"
-  case_of 'the codec of tokio' cargo test --quiet --manifest-path tokio/Cargo.toml
-  if cargo clippy --version > "$out" 2> "$err"; then
+  case_of 'the codec of tokio' tests --manifest-path tokio/Cargo.toml
+  if has_part clippy; then
     case_of 'the lints of the codec' cargo clippy --quiet --manifest-path tokio/Cargo.toml --all-targets -- -D warnings
   fi
 else
