@@ -10,6 +10,7 @@ from __future__ import annotations
 import base64
 import hashlib
 import json
+import re
 import typing
 
 import checks
@@ -20,6 +21,10 @@ KEY = "pendratsoa"
 
 # Journals of examples/streams that are compared with the recorded one.
 REPLAYS = ("recorded", "replay", "replayed_other_handler", "replayed_other_payload", "unknown_type")
+
+
+# What is said of two journals that have no verdict.
+MALFORMED = re.compile(rb"journal diff: the (recorded|replayed) command \d+ is malformed\n")
 
 
 def letters(content: bytes, key: str = KEY) -> bytes:
@@ -116,17 +121,27 @@ class Redactor:
     def run(self, *words: str, given: checks.Given = b"") -> checks.Run:
         return checks.run([self.path, *words], given)
 
+    def written(self, *words: str, given: bytes, has_items: bool = True) -> bytes:
+        """What a subcommand writes of a stream, which is a journal if it has a whole item."""
+        ended = self.run(*words, given=given)
+        self.check.case(f"journal {' '.join(words)}", ended.status == (0 if has_items else 1), ended)
+        return ended.out
+
     def redacted(self, stream: bytes, version: int = 8, key: str = KEY) -> bytes:
-        return self.run("redact", "--key", key, "--protocol", str(version), given=stream).out
+        """The redaction, which is as long. Bytes that have no whole item are not a journal."""
+        has_items = not stream or len(self.lines(stream, version)) > 1
+        redacted = self.written("redact", "--key", key, "--protocol", str(version), given=stream, has_items=has_items)
+        self.check.case("the length of a redaction", len(redacted) == len(stream), len(redacted))
+        return redacted
 
     def lines(self, stream: bytes, version: int) -> list[dict[str, typing.Any]]:
-        ended = self.run("dump", "--protocol", str(version), given=stream)
-        return [json.loads(line) for line in ended.out.splitlines()]
+        dump = self.written("dump", "--protocol", str(version), given=stream)
+        return [json.loads(line) for line in dump.splitlines()]
 
     def stays(self, name: str, stream: bytes, version: int) -> None:
         """A stream and its redaction differ only in contents, and none of these is in the redaction."""
         redacted = self.redacted(stream, version)
-        listed = [self.run("list", "--protocol", str(version), given=given).out for given in (stream, redacted)]
+        listed = [self.written("list", "--protocol", str(version), given=given) for given in (stream, redacted)]
         self.check.same(f"the listing of {name}", *listed)
         before, after = self.lines(stream, version), self.lines(redacted, version)
         unlike = [pair for pair in zip(before, after) if not is_like(*pair)]
@@ -142,8 +157,9 @@ class Redactor:
             for side, stream in zip(("recorded", "replayed"), pair):
                 (self.check.work / side).write_bytes(stream)
             ended = self.run("diff", "--json", *(str(self.check.work / side) for side in ("recorded", "replayed")))
-            # a malformed command has no verdict
             verdict = json.loads(ended.out) if ended.out else {}
+            has_said = ended.status in (0, 1) if verdict else ended.status == 2 and MALFORMED.fullmatch(ended.err)
+            self.check.case(f"{name} has a verdict, or a malformed command", bool(has_said), ended)
             found.append((ended.status, *(verdict.get(name) for name in ("verdict", "index", "commands"))))
         self.check.case(f"the verdict on {name}", found[0] == found[1], found)
 
@@ -184,7 +200,8 @@ def main(check: checks.Check) -> None:
         pair = [made_streams.frame(codes[words[1]], 0, made_streams.bytes_of(word)) for word in words[2:4]]
         redactor.verdicts(" ".join(words), *pair)
     keyless = [redactor.run("redact", given=recorded) for _ in range(2)]
-    check.case("without --key, the replacements differ", keyless[0].out != keyless[1].out and keyless[0].status == 0)
+    is_right = keyless[0].out != keyless[1].out and not any(run.status for run in keyless)
+    check.case("without --key, the replacements differ", is_right, keyless[0])
 
 
 if __name__ == "__main__":
