@@ -20,6 +20,7 @@ fi
 
 log=$(mktemp) || exit 1
 trap 'rm -f "$log"' EXIT
+trap 'exit 143' HUP INT TERM
 # quietly COMMAND..: runs it, and shows what it printed where it fails
 quietly() {
   "$@" > "$log" 2>&1 || { cat "$log"; return 1; }

@@ -14,6 +14,7 @@ if [ "${1-}" = --replay ]; then
   sh build.sh || exit $(($? != 77))
   work=$(mktemp -d) || exit 1
   trap 'rm -rf "$work"' EXIT
+  trap 'exit 143' HUP INT TERM
   "${CC:-cc}" -O2 -Wall -Wextra -Werror -I target/pendratsoa/include replay.c target/pendratsoa/lib/libpendratsoa.a \
     -o "$work/replay" || exit 1
   target/release/journals "$work/replay" "$work" "$@"
@@ -31,6 +32,7 @@ if [ ! -x "$journal" ]; then
 fi
 work=$(mktemp -d) || exit 1
 trap 'rm -rf "$work"' EXIT
+trap 'exit 143' HUP INT TERM
 ln -s "$journal" "$work/journal_diff"
 if ! cargo build --release --bin journals > "$work/log" 2>&1; then
   cat "$work/log"

@@ -19,6 +19,7 @@ for name in journal journal_list; do
 done
 work=$(mktemp -d) || exit 1
 trap 'rm -rf "$work"' EXIT
+trap 'exit 143' HUP INT TERM
 if ! cargo build --release --features json --bin programs --bin dump --bin list --bin make > "$work/log" 2>&1; then
   cat "$work/log"
   exit 1

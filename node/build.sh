@@ -47,6 +47,7 @@ done
 
 mkdir -p build
 trap 'rm -f build/new.node' EXIT
+trap 'exit 143' HUP INT TERM
 # The calls of the library are not seen from outside. A program that runs keeps the file that it has open.
 # shellcheck disable=SC2086 # the flags are split
 $compiler -std=c11 -O2 -fPIC -fvisibility=hidden -Wall -Wextra -Wpedantic -Wconversion -Wshadow ${CFLAGS-} \

@@ -43,6 +43,7 @@ from_release() {
   fi
   release=$(mktemp -d)
   trap 'rm -rf "$release"' EXIT
+  trap 'exit 143' HUP INT TERM
   tar -xzf "$1" -C "$release" --strip-components=1 || not_installed "$1 cannot be unpacked"
   [ -f "$release/install.sh" ] || not_installed "$1 has no install.sh: it is none of pendratsoa-VERSION-linux-*.tar.gz"
   shift
@@ -152,6 +153,7 @@ for program in $programs; do
 done
 work=$(mktemp -d)
 trap 'rm -rf "$work"' EXIT
+trap 'exit 143' HUP INT TERM
 
 # What the library allocates by is the toolchain's, which has it only for x86-64.
 archive=$top/crates/journal_ffi/$built/libjournal_ffi.a

@@ -53,6 +53,7 @@ tell_time() {
 work=$(mktemp -d)
 tell_time > /dev/null &
 trap 'kill $! 2> /dev/null || :; rm -rf "$work"' EXIT
+trap 'exit 143' HUP INT TERM
 # In both cases it is run, without input and arguments, and may fail then.
 if [ "$is_unproved" = yes ]; then
   echo "program.sh: building $crate without the proofs, once, in one to three minutes of processor time; it is slow," \

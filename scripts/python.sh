@@ -15,6 +15,7 @@ top=$(cd "$(dirname "$0")/.." && pwd)
 folder=${1:-$top/python}
 work=$(mktemp -d)
 trap 'rm -rf "$work"' EXIT
+trap 'exit 143' HUP INT TERM
 
 library=${2:-$work/prefix/lib/libpendratsoa.so}
 [ $# -eq 3 ] || DESTDIR='' sh "$top/scripts/install.sh" --library "$work/prefix" > "$work/log"

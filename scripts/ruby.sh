@@ -14,6 +14,7 @@ top=$(cd "$(dirname "$0")/.." && pwd)
 folder=$(cd "${1:-$top/ruby}" && pwd)
 work=$(mktemp -d)
 trap 'rm -rf "$work"' EXIT
+trap 'exit 143' HUP INT TERM
 
 not_compiled() {
   echo "ruby.sh: no module is compiled, since $1"

@@ -2,7 +2,7 @@
 """The layout of `rt fmt`, lines of at most 120 characters, mutants whose old texts occur once, and which were tried.
 
 The gate proves nothing of a crate with a file in another layout, and a mutant whose text has moved shows nothing; both
-are seen here within seconds.
+are seen here within seconds. And shell that removes its files at its end does so by a signal too.
 """
 from __future__ import annotations
 
@@ -86,6 +86,22 @@ def long_lines(check: checks.Check) -> None:
     check.case(f"lines of at most {WIDTH} characters", not found, "".join(found[:checks.LINES]))
 
 
+# A signal that is not trapped leaves what shell removes at its end.
+AT_END, BY_SIGNAL = " EXIT\n", "trap 'exit 143' HUP INT TERM\n"
+
+
+def traps(check: checks.Check) -> None:
+    """Shell that removes files at its end does so when a signal ends it, as those do that take the checks' lib.sh."""
+    texts = {path: path.read_text(encoding="utf-8") for path in files("scripts", "bench", "node", endings=(".sh",))}
+    removing = {path: text for path, text in texts.items() if AT_END in text}
+    lacking = [
+        str(path)
+        for path, text in removing.items()
+        if ". scripts/checks/lib.sh\n" not in text and text.count(AT_END) > text.count(BY_SIGNAL)
+    ]
+    check.case("shell removes its files by a signal too", bool(removing) and not lacking, " ".join(lacking))
+
+
 def complaint(edit: pathlib.Path) -> str | None:
     """Why a mutant cannot be applied. Each old text is replaced before the next one, as the prover's tool does it."""
     crate = edit.parent.parent
@@ -142,6 +158,7 @@ def tried_mutants(check: checks.Check) -> None:
 def main(check: checks.Check) -> None:
     layout(check)
     long_lines(check)
+    traps(check)
     mutants(check)
     tried_mutants(check)
 
