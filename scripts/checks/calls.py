@@ -123,6 +123,7 @@ def languages(check: checks.Check) -> None:
     """The names in the tables of docs/LANGUAGES.md are words of the sources of their column."""
     words = {language: set(re.findall(r"[\w?]+", together(*patterns))) for language, patterns in SOURCES.items()}
     heads: list[str] = []
+    named = set()
     for line in read("docs/LANGUAGES.md").splitlines():
         cells = [cell.strip() for cell in line.strip("|").split("|")]
         if not line.startswith("| "):
@@ -134,7 +135,9 @@ def languages(check: checks.Check) -> None:
             for code in re.findall(r"`([^`]*)`", cell):
                 for word in re.findall(r"[A-Za-z_?]+", re.sub(r"\([^)]*\)", " ", code)):
                     if word != "new":
+                        named.add(language)
                         check.case(f"docs/LANGUAGES.md: {word} of {language}", word in words.get(language, set()))
+    lacking(check, "the languages that docs/LANGUAGES.md has no names of", SOURCES, named)
 
 
 # Public functions that shared_core does not pass on, and those of the private modules pending_bytes and shared_chunks.
@@ -164,7 +167,7 @@ def crates_and_tests(check: checks.Check) -> None:
     rows = [line.split("|")[1] for line in read("docs/ARCHITECTURE.md").splitlines() if re.match(r"\| `[a-z_]*`", line)]
     named = {name for row in rows for name in re.findall(r"`([a-z_]+)`", row)}
     others = sorted(name for name in named - set(listed) if not pathlib.Path(name).is_dir())
-    check.case("the rows of docs/ARCHITECTURE.md", not others, " ".join(others))
+    check.case("the rows of docs/ARCHITECTURE.md", bool(named) and not others, " ".join(others))
     # another repository has the crates that this pattern of the page on the library takes
     pattern = re.search(r"grep -E '(.*)' PENDRATSOA/crates.txt", read("crates/shared_core/README.md"))
     copied = [crate for crate in listed if pattern and re.match(pattern[1], crate)]

@@ -290,6 +290,7 @@ def shortened(check: checks.Check, diff: Program) -> None:
             check.case(f"{words} of {line}", f"\n   value{line}\n" in run.out.decode() and run.status == 1, run)
         # whole values otherwise, in all forms
         whole = [diff.run((*words, *paths)).out for words in ((), ("--all",), ("--json",), ("--all", "--json"))]
+        check.case(f"whole values in place of {line}", all(whole), whole)
         for out, words in zip(whole, ((), ("--all",), ("--json",), ("--all", "--json"))):
             for how in ("auto", "whole", *(["short"] if "--json" in words else [])):
                 diff.ends((*words, "--values", how, *paths), out.decode(), "", 1)
@@ -328,7 +329,8 @@ def of_dumps(check: checks.Check, diff: Program) -> None:
     for other in others:
         streams = diff.run(f"--all recorded {other}")
         dumps = diff.run(f"--all --input dump recorded.jsonl {other}.jsonl")
-        is_same = (dumps.status, dumps.out, dumps.err) == (streams.status, streams.out, b"")
+        is_said = streams.status in (0, 1) and bool(streams.out)
+        is_same = is_said and (dumps.status, dumps.out, dumps.err) == (streams.status, streams.out, b"")
         check.case(f"dumps of recorded and {other}", is_same, dumps)
     pathlib.Path("bad.jsonl").write_bytes(pathlib.Path("recorded.jsonl").read_bytes() + b"{}\n")
     diff.ends("--input dump recorded.jsonl bad.jsonl", "",

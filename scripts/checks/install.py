@@ -114,7 +114,8 @@ class Installation:
             for name in (*crates.LINKS, *crates.PAGES):
                 words = name.split("_")
                 pages_of = [checks.run(["man", *each], env=env) for each in ([name], words)]
-                self.check.case(f"man {' '.join(words)}", pages_of[0] == pages_of[1], pages_of[1])
+                is_right = pages_of[0] == pages_of[1] and pages_of[0].status == 0 and bool(pages_of[0].out)
+                self.check.case(f"man {' '.join(words)}", is_right, pages_of[1])
         if self.check.has("mandoc", "the man pages by mandoc"):
             self.check.command("mandoc -T lint", ["mandoc", "-T", "lint", *sorted(pages.glob("man?/*.[13]"))])
 

@@ -321,7 +321,8 @@ class Journal:
         for path, name in PATHS.items():
             ended = subprocess.run([path, "--version"], executable=self.path, capture_output=True)
             expected = f"{name or 'journal'} {checks.library_version()}\n".encode()
-            self.check.case(f"the program called as '{path}'", ended.stdout == expected, ended)
+            is_right = (ended.returncode, ended.stdout) == (0, expected)
+            self.check.case(f"the program called as '{path}'", is_right, ended)
 
     def lists(self) -> None:
         """A listing is that of journal_list."""
@@ -329,7 +330,8 @@ class Journal:
             for version in ("5", "9"):
                 words = ("--protocol", version, f"./{name}" if name != "/dev/null" else name)
                 own, other = self.run(self.path, "list", *words), self.run(self.check.program("journal_list"), *words)
-                self.check.same(f"journal list {' '.join(words)}", other.out, own.out)
+                is_right = (own.status, own.out) == (0, other.out) and other.status == 0 and bool(own.out)
+                self.check.case(f"journal list {' '.join(words)}", is_right, own)
 
     def parts(self) -> None:
         """A part has the items that it says, as they are, and a start message with their number."""

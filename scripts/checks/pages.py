@@ -362,9 +362,15 @@ PARTS = (
 )
 
 
+# Those that count only what is wrong.
+COMPLAINING = (long_lines, tables)
+
+
 def main(check: checks.Check) -> None:
     for part in PARTS:
-        for page, complaint, is_there in part():
+        found = list(part())
+        check.case(f"{part.__name__} finds something", bool(found) or part in COMPLAINING)
+        for page, complaint, is_there in found:
             check.case(f"{page}: {complaint}", is_there)
 
 

@@ -55,13 +55,14 @@ def example_of(language: str) -> str:
 def links(check: checks.Check, out: pathlib.Path) -> None:
     """The links of the pages in a folder lead to a file, and to an anchor of it."""
     wrong = []
-    for page in sorted(out.glob("*.html")):
+    pages = sorted(out.glob("*.html"))
+    for page in pages:
         for target in sorted(set(re.findall(r'href="([^":]*)"', page.read_text(encoding="utf-8")))):
             file, _, anchor = html.unescape(target).partition("#")
             there = page.parent / file if file else page
             if not there.exists() or anchor and f'id="{html.escape(anchor)}"' not in there.read_text(encoding="utf-8"):
                 wrong.append(f"{page.name}: {target}")
-    check.case(f"the links of {out.name}", not wrong, wrong)
+    check.case(f"the links of {out.name}", bool(pages) and not wrong, wrong)
 
 
 def main(check: checks.Check) -> None:
@@ -78,8 +79,9 @@ def main(check: checks.Check) -> None:
             check.case(f"{language}: {name} has no sentence", False)
         check.case(f"{language}: every public name has a sentence", not without)
         # before anything else but the title and what a page has at its side
-        at = shown(out / language / EXAMPLES[language][0]).find(example_of(language))
-        check.case(f"{language}: the first page begins with its example", 0 <= at < 2000, at)
+        example = example_of(language)
+        at = shown(out / language / EXAMPLES[language][0]).find(example)
+        check.case(f"{language}: the first page begins with its example", bool(example) and 0 <= at < 2000, at)
         if language in OWN:
             links(check, out / language)
     languages.repository(out)
