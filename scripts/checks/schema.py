@@ -402,17 +402,19 @@ def compared(check: checks.Check, program: Program) -> None:
     streams = checks.ROOT / "examples/streams"
     for name in ("recorded", "replayed_other_handler", "replayed_other_payload"):
         stream = program.run(f"make --schema {made}", program.run(f"dump {streams / name}").out).out
-        check.case(f"{name} at other numbers", stream != (streams / name).read_bytes(), name)
+        check.case(f"{name} at other numbers", bool(stream) and stream != (streams / name).read_bytes(), name)
         (check.work / name).write_bytes(stream)
         (check.work / f"{name}.hex").write_text(stream.hex())
     for name in ("recorded", "replayed_other_handler", "replayed_other_payload"):
         for words in ("", "--all", "--json", "--ignore-payloads"):
             ours = program.run(f"diff {words} {streams}/recorded {streams / name}")
             theirs = program.run(f"diff {words} --schema {made} {check.work}/recorded {check.work / name}")
-            check.case(f"diff {words} --schema, recorded and {name}", ours == theirs, (ours, theirs))
+            has_verdict = ours.status in (0, 1) and bool(ours.out)
+            check.case(f"diff {words} --schema, recorded and {name}", has_verdict and ours == theirs, (ours, theirs))
         ours = program.run(f"diff {streams}/recorded {streams / name}")
         theirs = program.run(f"diff --input hex --schema {made} {check.work}/recorded.hex {check.work / name}.hex")
-        check.case(f"diff --input hex --schema, recorded and {name}", ours == theirs, (ours, theirs))
+        is_same = bool(ours.out) and ours == theirs
+        check.case(f"diff --input hex --schema, recorded and {name}", is_same, (ours, theirs))
     cut = (check.work / "recorded").read_bytes()[:-1]
     (check.work / "cut").write_bytes(cut)
     ours = program.run(f"diff {streams}/recorded -", (streams / "recorded").read_bytes()[:-1])
@@ -544,7 +546,7 @@ def by_variable(check: checks.Check, program: Program) -> None:
     said = "either the input or the descriptor set can come from the standard input\n"
     program.ends("dump", "", f"journal dump: {said}", 2, given=frame, env=env)
     renamed = program.run("dump --rename Fetch=GetLazyStateCommand", frame, env=plain)
-    check.case("PENDRATSOA_SCHEMA with --rename", b'"result":7' in renamed.out, renamed)
+    check.case("PENDRATSOA_SCHEMA with --rename", b'"result":7' in renamed.out and not renamed.status, renamed)
 
 
 # A message of a type with its name, what is between, and its code; that of a suspension before V7 is another one's too.
