@@ -693,7 +693,7 @@ def again(check: checks.Check, release: pathlib.Path) -> None:
 
 
 def pages(check: checks.Check, release: pathlib.Path) -> None:
-    """The archive of pages, unpacked: its front page leads to all, and what is made here to what is there."""
+    """The archive of pages, unpacked: it has all pages, and every link leads to what is there."""
     folder = check.work / "pages"
     folder.mkdir()
     words = ["tar", "-xf", release / released_pages.ARCHIVE, "-C", folder, "--strip-components=1"]
@@ -701,9 +701,7 @@ def pages(check: checks.Check, release: pathlib.Path) -> None:
     names = [released_pages.archived(name) for name in released_pages.named()]
     absent = [name for name in names if not (folder / name).is_file()]
     check.case("the archive has each page and each example", bool(names) and not absent, absent)
-    own = {folder / name for name in reference.OWN}
-    for each in sorted({*own, *((folder / name).parent for name in names if name.endswith(".html")), folder}):
-        reference.links(check, each)
+    reference.links(check, folder)
 
 
 def date() -> str:

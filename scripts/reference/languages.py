@@ -114,7 +114,23 @@ def rust(made: Work) -> Undocumented:
             f'[source.crates-io]\nreplace-with = "debian"\n\n[source.debian]\ndirectory = "{registry}"\n')
         said += run("cargo", "doc", "--no-deps", "--lib", cwd=folder / "tokio", **env).stderr
     shutil.copytree(made.work / "target" / "doc", made.out, ignore=shutil.ignore_patterns(".lock"))
+    mend_links(made.out)
     return re.findall(r"warning: (missing documentation for .*)", said)
+
+
+def mend_links(out: pathlib.Path) -> None:
+    """Removes the links of rustdoc's pages that lead to nothing, or makes what they lead to: a page of all crates, for
+    those of help and settings. In an older rustdoc these name a script that only crates have. A comment of another
+    crate, as tokio_util, has links by paths of Rust, as futures_core::Stream: they become their texts."""
+    for page in out.rglob("*.html"):
+        text = page.read_text(encoding="utf-8")
+        text = re.sub(r'<a href="\w+(?:::\w+)+"[^>]*>(.*?)</a>', r"\1", text)
+        if page.parent == out:
+            text = re.sub(r'<script[^>]* src="(\./)?sidebar-items\.js"></script>', "", text)
+        page.write_text(text, encoding="utf-8")
+    names = sorted(page.parent.name for page in out.glob("*/all.html"))
+    rows = "".join(f'<li><a href="{name}/index.html"><code>{name}</code></a></li>\n' for name in names)
+    write(out / "index.html", "pendratsoa for Rust", f"<h1>pendratsoa for Rust</h1>\n<ul>\n{rows}</ul>")
 
 
 def go(made: Work) -> Undocumented:
@@ -462,10 +478,18 @@ def made(language: str, out: pathlib.Path) -> Undocumented:
         return LANGUAGES[language][0](Work(out / language, pathlib.Path(work)))
 
 
+# The list of the examples, to which the front page leads.
+EXAMPLES_PAGE = "examples/index.html"
+
+
 def repository(out: pathlib.Path) -> None:
     """The pages and programs of the repository that the packages name, at their paths there; pages as HTML, whose links
-    to others of them are links."""
+    to others of them are links. The examples have a list."""
     named = released_pages.named()
+    folder = f"{os.path.dirname(EXAMPLES_PAGE)}/"
+    listed = [released_pages.archived(path).removeprefix(folder) for path in named if path.startswith(folder)]
+    rows = "".join(f'<li><a href="{path}">{path.removesuffix(".html")}</a></li>\n' for path in listed)
+    write(out / EXAMPLES_PAGE, "Examples", f"<h1>Examples</h1>\n<ul>\n{rows}</ul>")
     for path in named:
         target = out / released_pages.archived(path)
         target.parent.mkdir(parents=True, exist_ok=True)
@@ -494,8 +518,8 @@ def front(out: pathlib.Path, languages: list[str]) -> None:
     body = f"<h1>{TITLE} {version()}</h1>\n<p>The reference of each language:</p>\n<ul>\n{rows}</ul>"
     there = [path for path in map(released_pages.archived, released_pages.named()) if (out / path).is_file()]
     if there:
-        rows = "".join(f'<li><a href="{path}">{path.removesuffix(".html")}</a></li>\n'
-                       for path in [*filter(re.compile(r"\.html$").search, there), "examples/"])
+        rows = "".join(f'<li><a href="{path}">{path.removesuffix(".html").removesuffix("/index")}</a></li>\n'
+                       for path in [*filter(re.compile(r"\.html$").search, there), EXAMPLES_PAGE])
         body += f"\n<p>Pages, and programs with their streams:</p>\n<ul>\n{rows}</ul>"
     write(out / "index.html", f"{TITLE} {version()}", body)
 
