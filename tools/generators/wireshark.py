@@ -14,8 +14,8 @@ ENGINE = pathlib.Path(__file__).with_name("wireshark.lua")
 MEDIA_TYPE = "application/vnd.restate.invocation.v"
 
 HEAD = """\
--- For Wireshark and tshark: streams over HTTP/2 by their media types, and over TCP by Decode As. docs/WIRESHARK.md says
--- how to use it.
+-- For Wireshark and tshark: streams over HTTP/2 by their media types, and over TCP by Decode As. Its page is
+-- docs/WIRESHARK of the documentation.
 """
 
 
