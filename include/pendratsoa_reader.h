@@ -23,7 +23,13 @@
  *     }
  *     journal_reader_free(&reader);
  *
- * A journal_memory is memory that grows, for arenas of pendratsoa_messages.h and for what a call writes.
+ * A journal_memory is memory that grows, for arenas of pendratsoa_messages.h and for what a call writes:
+ *
+ *     struct journal_memory memory = {NULL, 0};
+ *
+ *     do {
+ *         length = journal_json(schema, payload, payload_length, memory.bytes, memory.size);
+ *     } while (journal_memory_grow_for(&memory, &length));
  */
 #ifndef PENDRATSOA_READER_H
 #define PENDRATSOA_READER_H
@@ -74,6 +80,22 @@ static inline bool journal_memory_grow(struct journal_memory *memory, size_t siz
     memory->bytes = bytes;
     memory->size = wanted;
     return true;
+}
+
+/*
+ * Makes memory large enough for a call that writes bytes into it, by its result. Returns true if it was too small, and
+ * the call is to be made again; false if the bytes are written, or the result is an error. If an allocation fails, the
+ * result becomes JOURNAL_OUT_OF_MEMORY, and the memory stays as it is.
+ */
+static inline bool journal_memory_grow_for(struct journal_memory *memory, int64_t *result) {
+    if (*result < 0 || (uint64_t)*result <= memory->size) {
+        return false;
+    }
+    if (journal_memory_grow(memory, (size_t)*result)) {
+        return true;
+    }
+    *result = JOURNAL_OUT_OF_MEMORY;
+    return false;
 }
 
 /* Gives the memory back. */
@@ -257,6 +279,26 @@ static inline void journal_reader_free(struct journal_reader *reader) {
     journal_memory_free(&reader->memory);
     reader->begin = 0;
     reader->end = 0;
+}
+
+/*
+ * Recordings.
+ */
+
+/*
+ * How many bytes of a recording follow its last whole item: 0 of a whole recording, and all if there is no such
+ * version. No replay compares them. So if there are some, a replay without a mismatch is the same only up to them, and
+ * JOURNAL_VERDICT_RECORDED_ENDED may only mean that the recording was cut. It copies nothing and does not allocate.
+ */
+static inline size_t journal_recorded_rest(uint32_t version, const uint8_t *recorded, size_t recorded_length) {
+    struct journal_item item;
+    size_t rest = recorded_length;
+
+    while (rest > 0 && journal_next(version, recorded + (recorded_length - rest), rest, &item,
+                                    JOURNAL_ITEM_NUMBERS) == 0) {
+        rest -= (size_t)item.size;
+    }
+    return rest;
 }
 
 #ifdef __cplusplus

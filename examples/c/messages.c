@@ -22,9 +22,19 @@
 /* What is used again for each message: the memory of arenas, and a frame that is written. */
 static struct journal_memory memory, out;
 
-/* Prints a slice between quotes. */
+/* Prints a slice between quotes: other bytes than printable ASCII as \x and two digits. */
 static void print(struct journal_slice slice) {
-    fprintf(stderr, " \"%.*s\"", (int)slice.length, slice.length > 0 ? (const char *)slice.at : "");
+    fputs(" \"", stderr);
+    for (size_t i = 0; i < slice.length; i++) {
+        const uint8_t byte = slice.at[i];
+
+        if (byte < ' ' || byte > '~' || byte == '"' || byte == '\\') {
+            fprintf(stderr, "\\x%02x", byte);
+        } else {
+            fputc(byte, stderr);
+        }
+    }
+    fputc('"', stderr);
 }
 
 /*
@@ -32,12 +42,10 @@ static void print(struct journal_slice slice) {
  * If an allocation fails, the result becomes JOURNAL_OUT_OF_MEMORY.
  */
 static bool has_more_room(int64_t *result, size_t lacking) {
-    const bool is_arena = *result == JOURNAL_NO_ROOM;
-
-    if (!is_arena && *result <= (int64_t)out.size) {
-        return false;
+    if (*result != JOURNAL_NO_ROOM) {
+        return journal_memory_grow_for(&out, result);
     }
-    if (is_arena ? journal_memory_grow(&memory, memory.size + lacking) : journal_memory_grow(&out, (size_t)*result)) {
+    if (journal_memory_grow(&memory, memory.size + lacking)) {
         return true;
     }
     *result = JOURNAL_OUT_OF_MEMORY;

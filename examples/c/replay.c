@@ -26,8 +26,15 @@ static struct journal_replay replay;
 static void print_command(const char *what, uint64_t code, uint64_t offset) {
     uint8_t name[64];
     const int64_t size = journal_type_name((uint16_t)code, name, sizeof name);
+    const bool is_there = size >= 0 && size <= (int64_t)sizeof name;
 
-    printf("%s %.*s at offset %" PRIu64 "\n", what, (int)(size < 0 ? 0 : size), (const char *)name, offset);
+    printf("%s %.*s at offset %" PRIu64 "\n", what, is_there ? (int)size : 0, (const char *)name, offset);
+}
+
+/* Prints bytes after a text. They may be more than a precision of printf can be. */
+static void print_bytes(const char *before, const uint8_t *bytes, uint64_t size) {
+    fputs(before, stdout);
+    fwrite(bytes, 1, (size_t)size, stdout);
 }
 
 /* Prints the text of a mismatch of two commands, and the fields in which they differ. Returns 1, or an error. */
@@ -35,14 +42,13 @@ static int64_t print_text(const struct journal_mismatch *found, uint16_t code, c
     struct journal_changed_field field;
     int64_t needed;
 
-    while ((needed = journal_replay_text(code, recorded.bytes, length, payload, size, &replay, JOURNAL_REPLAY_NUMBERS,
-                                         text.bytes, text.size)) > (int64_t)text.size) {
-        if (!journal_memory_grow(&text, (size_t)needed)) {
-            return JOURNAL_OUT_OF_MEMORY;
-        }
-    }
+    do {
+        needed = journal_replay_text(code, recorded.bytes, length, payload, size, &replay, JOURNAL_REPLAY_NUMBERS,
+                                     text.bytes, text.size);
+    } while (journal_memory_grow_for(&text, &needed));
     if (needed > 0) {
-        printf("%.*s\n", (int)needed, (const char *)text.bytes);
+        print_bytes("", text.bytes, (uint64_t)needed);
+        putchar('\n');
     }
     /* no field is longer than the text, which has all of them */
     for (uint32_t index = 0; needed > 0 && found->kind == JOURNAL_VERDICT_HEADER_MISMATCH; index++) {
@@ -50,10 +56,12 @@ static int64_t print_text(const struct journal_mismatch *found, uint16_t code, c
                                        (size_t)found->recorded_size - 8, payload, size, &field,
                                        JOURNAL_CHANGED_FIELD_NUMBERS, text.bytes, text.size);
         if (needed > 0) {
-            const char *name = (const char *)text.bytes, *one = name + field.name_length;
+            const uint8_t *first = text.bytes + field.name_length;
 
-            printf("field %.*s: recorded %.*s, replayed %.*s\n", (int)field.name_length, name,
-                   (int)field.first_length, one, (int)field.second_length, one + field.first_length);
+            print_bytes("field ", text.bytes, field.name_length);
+            print_bytes(": recorded ", first, field.first_length);
+            print_bytes(", replayed ", first + field.first_length, field.second_length);
+            putchar('\n');
         }
     }
     return needed < 0 ? needed : 1;
@@ -61,12 +69,7 @@ static int64_t print_text(const struct journal_mismatch *found, uint16_t code, c
 
 /* Prints a mismatch, and what the recording has next. Returns the status. */
 static int print_mismatch(const struct journal_mismatch *found) {
-    static const char *const kinds[] = {"same", "recorded_ended", "replayed_ended", "type_mismatch",
-                                        "header_mismatch", "bad_recorded", "bad_replayed"};
-
-    /* a later library may have further kinds */
-    printf("%s, command %" PRIu64 ", recorded at offset ",
-           found->kind < sizeof kinds / sizeof kinds[0] ? kinds[found->kind] : "mismatch", found->index);
+    printf("%s, command %" PRIu64 ", recorded at offset ", journal_verdict_name(found->kind), found->index);
     found->recorded_size > 0 ? printf("%" PRIu64, found->recorded_offset) : printf("-");
     printf(", replayed at offset %" PRIu64 "\n", found->replayed_offset);
     if (found->kind != JOURNAL_VERDICT_RECORDED_ENDED) {
@@ -89,24 +92,12 @@ static void print_end(const struct journal_reader *reader, int64_t result) {
     fprintf(stderr, ": %s\n", result < 0 ? "too long" : ferror(stdin) ? "the input failed" : "the stream ended here");
 }
 
-/* How many bytes of the recording follow its last whole item, which are not compared. */
-static size_t recorded_rest(void) {
-    struct journal_item item;
-    size_t begin = 0;
-
-    while (journal_next((uint32_t)replay.version, recorded.bytes + begin, length - begin, &item,
-                        JOURNAL_ITEM_NUMBERS) == 0) {
-        begin += (size_t)item.size;
-    }
-    return length - begin;
-}
-
 /* Prints what is left of the recording at the end of the replay. Returns the status, or an error. */
 static int64_t print_rest(void) {
     struct journal_mismatch found;
     const int64_t result = journal_replay_finish(recorded.bytes, length, &replay, JOURNAL_REPLAY_NUMBERS, &found,
                                                  JOURNAL_MISMATCH_NUMBERS);
-    const size_t rest = recorded_rest();
+    const size_t rest = journal_recorded_rest((uint32_t)replay.version, recorded.bytes, length);
 
     if (result != 0) {
         return result == 1 ? print_mismatch(&found) : result;
@@ -119,43 +110,64 @@ static int64_t print_rest(void) {
     return 0;
 }
 
-int main(int argc, char **argv) {
-    FILE *file = argc > 1 ? fopen(argv[1], "rb") : NULL;
-    struct journal_reader reader = journal_reader_of(argc > 2 ? (uint32_t)atoi(argv[2]) : 8, LIMIT);
-    struct journal_reader_item item;
-    struct journal_mismatch found;
-    int64_t result = 0;
-    size_t count = 1;
+/* Reads the recording. Returns whether it could be read to its end. */
+static bool read_recording(const char *path) {
+    FILE *file = fopen(path, "rb");
+    bool is_read;
 
-    replay.version = reader.version;
     while (file && !feof(file) && !ferror(file) && journal_memory_grow(&recorded, length + CHUNK)) {
         length += fread(recorded.bytes + length, 1, CHUNK, file);
     }
-    if (!file || !feof(file)) {
-        fputs("replay: the recording cannot be read\n", stderr);
-        return 2;
+    is_read = file && feof(file);
+    if (file) {
+        fclose(file);
     }
-    while (result == 0 && count > 0) {
-        uint8_t *room = journal_reader_room(&reader, CHUNK);
+    return is_read;
+}
 
-        result = room ? 0 : JOURNAL_OUT_OF_MEMORY;
-        count = room ? fread(room, 1, CHUNK, stdin) : 0;
-        journal_reader_came(&reader, count);
-        while (result == 0 && (result = journal_reader_next(&reader, &item)) == 1) {
-            const uint64_t index = replay.index;
-            const uint16_t code = (uint16_t)item.item.code;
-
-            result = journal_replay_check(code, recorded.bytes, length, item.payload, item.payload_length, &replay,
+/* Checks an item, and prints what is said of it. Returns 0 if the replay goes on, a status, or an error. */
+static int64_t check_item(const struct journal_reader_item *item) {
+    const uint64_t index = replay.index;
+    const uint16_t code = (uint16_t)item->item.code;
+    struct journal_mismatch found;
+    int64_t result = journal_replay_check(code, recorded.bytes, length, item->payload, item->payload_length, &replay,
                                           JOURNAL_REPLAY_NUMBERS, &found, JOURNAL_MISMATCH_NUMBERS);
-            if (result == 0 && replay.index > index) {
-                print_command("same", code, item.offset);
-            } else if (result == 1 && (result = print_mismatch(&found)) == 1) {
-                result = print_text(&found, code, item.payload, item.payload_length);
-            }
+
+    if (result == 0 && replay.index > index) {
+        print_command("same", code, item->offset);
+    } else if (result == 1 && (result = print_mismatch(&found)) == 1) {
+        result = print_text(&found, code, item->payload, item->payload_length);
+    }
+    return result;
+}
+
+/* Checks the items of the standard input. Returns 0 at its end, a status, or an error. */
+static int64_t check_items(struct journal_reader *reader) {
+    struct journal_reader_item item;
+    int64_t result = 0;
+    size_t count = 1;
+
+    while (result == 0 && count > 0) {
+        uint8_t *room = journal_reader_room(reader, CHUNK);
+
+        if (room == NULL) {
+            return JOURNAL_OUT_OF_MEMORY;
+        }
+        count = fread(room, 1, CHUNK, stdin);
+        journal_reader_came(reader, count);
+        while (result == 0 && (result = journal_reader_next(reader, &item)) == 1) {
+            result = check_item(&item);
         }
     }
-    if (result == JOURNAL_TOO_LONG || (result == 0 && (ferror(stdin) || journal_reader_pending(&reader) > 0))) {
-        print_end(&reader, result);
+    return result;
+}
+
+/* Checks the standard input, and prints how it ends. Returns the status. */
+static int check(struct journal_reader *reader) {
+    int64_t result = check_items(reader);
+
+    if (result == JOURNAL_TOO_LONG || (result == 0 && (ferror(stdin) || journal_reader_pending(reader) > 0))) {
+        print_end(reader, result);
         return 2;
     }
     if (result == 0) {
@@ -163,9 +175,27 @@ int main(int argc, char **argv) {
     }
     if (result < 0) {
         fprintf(stderr, "replay: %s\n", journal_error_text(result));
-    } else if (fflush(stdout) != 0 || ferror(stdout)) {
-        fputs("replay: the output failed\n", stderr);
         return 2;
     }
-    return result < 0 ? 2 : (int)result;
+    return (int)result;
+}
+
+int main(int argc, char **argv) {
+    struct journal_reader reader = journal_reader_of(argc > 2 ? (uint32_t)atoi(argv[2]) : 8, LIMIT);
+    int status = 2;
+
+    replay.version = reader.version;
+    if (argc < 2 || !read_recording(argv[1])) {
+        fputs("replay: the recording cannot be read\n", stderr);
+    } else {
+        status = check(&reader);
+    }
+    if (fflush(stdout) != 0 || ferror(stdout)) {
+        fputs("replay: the output failed\n", stderr);
+        status = 2;
+    }
+    journal_reader_free(&reader);
+    journal_memory_free(&recorded);
+    journal_memory_free(&text);
+    return status;
 }

@@ -14,10 +14,16 @@
  * the end.
  *
  * Names. A constant of a family begins with its name: the code of a type with JOURNAL_TYPE_, the number of a schema
- * with JOURNAL_SCHEMA_. Kinds begin with JOURNAL_ITEM_, JOURNAL_FIELD_, JOURNAL_RESULT_ or JOURNAL_VERDICT_, and
- * reasons with JOURNAL_JSON_ or JOURNAL_ENTRY_. The errors, which come first, have no such word and are negative.
+ * with JOURNAL_SCHEMA_. Kinds begin with JOURNAL_ITEM_, JOURNAL_FIELD_, JOURNAL_RESULT_, JOURNAL_VERDICT_ or
+ * JOURNAL_LIST_, and those of an id end with _ID or _NAME. Options begin with JOURNAL_REPLAY_, directions with
+ * JOURNAL_NUMBERING_, and reasons with JOURNAL_JSON_ or JOURNAL_ENTRY_; without a reason it is JOURNAL_READ or
+ * JOURNAL_WRITTEN. The errors, which come first, have no such word and are negative. What a program prints has a name
+ * too, as "header_mismatch" by journal_verdict_name.
  *
  * Threads. Calls share nothing: any number of threads may make them at once.
+ *
+ * Documentation. The page docs/FORMAT is docs/FORMAT.html in the archive of reference pages of a release, and
+ * docs/FORMAT.md in a clone; docs/C is the page of this library.
  */
 #ifndef PENDRATSOA_H
 #define PENDRATSOA_H
@@ -112,7 +118,7 @@ static inline const char *journal_error_text(int64_t result) {
 #define JOURNAL_FIRST_VERSION 5
 #define JOURNAL_LAST_VERSION 9
 
-/* The number of schemas. docs/C.md lists their numbers, from 0. */
+/* The number of schemas. They are numbered from 0: JOURNAL_SCHEMA_VOID and those after it. */
 #define JOURNAL_SCHEMAS 53
 
 /* The version of the library that this header belongs to. */
@@ -355,7 +361,8 @@ int64_t journal_merge(uint32_t schema, const uint8_t *first, size_t first_length
                       size_t second_length, uint8_t *out, size_t room);
 
 /*
- * Writes the JSON of what a payload means, in protobuf's own form (docs/FORMAT.md). Returns its length in bytes.
+ * Writes the JSON of what a payload means, in protobuf's own form (the page docs/FORMAT of the documentation). Returns
+ * its length in bytes.
  *
  * Errors, in order of precedence: JOURNAL_UNKNOWN_SCHEMA, JOURNAL_MALFORMED, JOURNAL_TOO_LONG; JOURNAL_OUT_OF_MEMORY
  * may replace each after JOURNAL_UNKNOWN_SCHEMA.
@@ -373,6 +380,35 @@ int64_t journal_json(uint32_t schema, const uint8_t *payload, size_t payload_len
 #define JOURNAL_JSON_NOT_BASE64 7      /* a string for bytes is not base64 */
 #define JOURNAL_JSON_TOO_DEEP 8        /* a message is nested more than one hundred levels deep */
 
+/*
+ * The name of such a kind, as "too_deep" of JOURNAL_JSON_TOO_DEEP, in a text that stays and ends with a zero byte. It
+ * is "unknown" of a kind that this header does not know.
+ */
+static inline const char *journal_reading_name(uint64_t kind) {
+    switch (kind) {
+    case JOURNAL_READ:
+        return "read";
+    case JOURNAL_JSON_NOT_JSON:
+        return "not_json";
+    case JOURNAL_JSON_UNKNOWN_MEMBER:
+        return "unknown_member";
+    case JOURNAL_JSON_REPEATED_MEMBER:
+        return "repeated_member";
+    case JOURNAL_JSON_SEVERAL_MEMBERS:
+        return "several_members";
+    case JOURNAL_JSON_WRONG_KIND:
+        return "wrong_kind";
+    case JOURNAL_JSON_OUT_OF_RANGE:
+        return "out_of_range";
+    case JOURNAL_JSON_NOT_BASE64:
+        return "not_base64";
+    case JOURNAL_JSON_TOO_DEEP:
+        return "too_deep";
+    default:
+        return "unknown";
+    }
+}
+
 /* What a JSON text is read as. */
 struct journal_reading {
     uint64_t kind;   /* one of the nine kinds */
@@ -383,10 +419,10 @@ struct journal_reading {
 #define JOURNAL_READ_NUMBERS 2
 
 /*
- * Reads a JSON text in protobuf's own form (docs/FORMAT.md). Writes two numbers, and as bytes the canonical payload of
- * what the text means, or the path to the rejected value, as "headers[2].key", if it is JSON. Returns how many bytes
- * these are; if there is no room for them, the numbers are written nevertheless. A rejected text is not an error of the
- * call: the kind of the result has the reason.
+ * Reads a JSON text in protobuf's own form (the page docs/FORMAT of the documentation). Writes two numbers, and as
+ * bytes the canonical payload of what the text means, or the path to the rejected value, as "headers[2].key", if it is
+ * JSON. Returns how many bytes these are; if there is no room for them, the numbers are written nevertheless. A
+ * rejected text is not an error of the call: the kind of the result has the reason.
  *
  * Errors, in order of precedence: JOURNAL_UNKNOWN_SCHEMA, JOURNAL_NO_ROOM, JOURNAL_TOO_LONG; JOURNAL_OUT_OF_MEMORY may
  * replace each after JOURNAL_NO_ROOM.
@@ -444,6 +480,37 @@ int64_t journal_fields(uint32_t schema, const uint8_t *payload, size_t payload_l
 #define JOURNAL_ENTRY_WRONG_LEVEL 8     /* it is deeper than the last entry, and no field of that */
 #define JOURNAL_ENTRY_TOO_DEEP 9        /* it is a message that is nested more than one hundred levels deep */
 
+/*
+ * The name of such a kind, as "too_deep" of JOURNAL_ENTRY_TOO_DEEP, in a text that stays and ends with a zero byte. It
+ * is "unknown" of a kind that this header does not know.
+ */
+static inline const char *journal_writing_name(uint64_t kind) {
+    switch (kind) {
+    case JOURNAL_WRITTEN:
+        return "written";
+    case JOURNAL_ENTRY_UNKNOWN_FIELD:
+        return "unknown_field";
+    case JOURNAL_ENTRY_OUT_OF_ORDER:
+        return "out_of_order";
+    case JOURNAL_ENTRY_SEVERAL_MEMBERS:
+        return "several_members";
+    case JOURNAL_ENTRY_WRONG_KIND:
+        return "wrong_kind";
+    case JOURNAL_ENTRY_OUT_OF_RANGE:
+        return "out_of_range";
+    case JOURNAL_ENTRY_NOT_UTF8:
+        return "not_utf8";
+    case JOURNAL_ENTRY_OUT_OF_BOUNDS:
+        return "out_of_bounds";
+    case JOURNAL_ENTRY_WRONG_LEVEL:
+        return "wrong_level";
+    case JOURNAL_ENTRY_TOO_DEEP:
+        return "too_deep";
+    default:
+        return "unknown";
+    }
+}
+
 /* What a table of fields is written as. */
 struct journal_writing {
     uint64_t kind;  /* one of the ten kinds */
@@ -476,12 +543,50 @@ int64_t journal_payload_of_fields(uint32_t schema, const struct journal_field *f
 #define JOURNAL_SIGNAL_ID 1     /* the id is that of a signal, a number */
 #define JOURNAL_SIGNAL_NAME 2   /* the id is the name of a signal, a text */
 
+/*
+ * The name of such a kind, as "signal_name" of JOURNAL_SIGNAL_NAME, in a text that stays and ends with a zero byte. It
+ * is "unknown" of a kind that this header does not know.
+ */
+static inline const char *journal_id_name(uint64_t kind) {
+    switch (kind) {
+    case JOURNAL_COMPLETION_ID:
+        return "completion_id";
+    case JOURNAL_SIGNAL_ID:
+        return "signal_id";
+    case JOURNAL_SIGNAL_NAME:
+        return "signal_name";
+    default:
+        return "unknown";
+    }
+}
+
 /* The kinds of a notification's result. */
 #define JOURNAL_RESULT_VOID 0          /* the result says that there is no value; it is empty */
 #define JOURNAL_RESULT_VALUE 1         /* the result is the canonical payload of a Value */
 #define JOURNAL_RESULT_FAILURE 2       /* the result is the canonical payload of a Failure */
 #define JOURNAL_RESULT_INVOCATION_ID 3 /* the result is the text of an invocation id */
 #define JOURNAL_RESULT_STATE_KEYS 4    /* the result is the canonical payload of StateKeys */
+
+/*
+ * The name of such a kind, as "state_keys" of JOURNAL_RESULT_STATE_KEYS, in a text that stays and ends with a zero
+ * byte. It is "unknown" of a kind that this header does not know.
+ */
+static inline const char *journal_result_name(uint64_t kind) {
+    switch (kind) {
+    case JOURNAL_RESULT_VOID:
+        return "void";
+    case JOURNAL_RESULT_VALUE:
+        return "value";
+    case JOURNAL_RESULT_FAILURE:
+        return "failure";
+    case JOURNAL_RESULT_INVOCATION_ID:
+        return "invocation_id";
+    case JOURNAL_RESULT_STATE_KEYS:
+        return "state_keys";
+    default:
+        return "unknown";
+    }
+}
 
 /* The id and the result of a notification. */
 struct journal_notification {
@@ -511,8 +616,8 @@ int64_t journal_notification(uint16_t code, const uint8_t *payload, size_t paylo
                              size_t room);
 
 /*
- * Comparing commands, by two payloads of one type. conformance/README.md lists the fields that are never compared,
- * those with payloads of user data, and those that are printed.
+ * Comparing commands, by two payloads of one type. Which fields are never compared, which have payloads of user data,
+ * and which are printed: see the page conformance/README of the documentation.
  */
 
 /*
@@ -583,6 +688,31 @@ int64_t journal_changed_field(uint16_t code, uint32_t index, const uint8_t *firs
 #define JOURNAL_VERDICT_HEADER_MISMATCH 4 /* the first commands that differ, at this index, are of one type */
 #define JOURNAL_VERDICT_BAD_RECORDED 5    /* the recorded command at this index is malformed; all before it are the same */
 #define JOURNAL_VERDICT_BAD_REPLAYED 6    /* the replayed command at this index is malformed, the recorded one is not */
+
+/*
+ * The name of such a kind, as "bad_replayed" of JOURNAL_VERDICT_BAD_REPLAYED, in a text that stays and ends with a zero
+ * byte. It is "unknown" of a kind that this header does not know.
+ */
+static inline const char *journal_verdict_name(uint64_t kind) {
+    switch (kind) {
+    case JOURNAL_VERDICT_SAME:
+        return "same";
+    case JOURNAL_VERDICT_RECORDED_ENDED:
+        return "recorded_ended";
+    case JOURNAL_VERDICT_REPLAYED_ENDED:
+        return "replayed_ended";
+    case JOURNAL_VERDICT_TYPE_MISMATCH:
+        return "type_mismatch";
+    case JOURNAL_VERDICT_HEADER_MISMATCH:
+        return "header_mismatch";
+    case JOURNAL_VERDICT_BAD_RECORDED:
+        return "bad_recorded";
+    case JOURNAL_VERDICT_BAD_REPLAYED:
+        return "bad_replayed";
+    default:
+        return "unknown";
+    }
+}
 
 /* The verdict on two journals. */
 struct journal_verdict {

@@ -211,9 +211,6 @@ static void read_messages(void) {
  * Replays.
  */
 
-static const char *const verdicts[] = {"same",            "recorded_ended", "replayed_ended", "type_mismatch",
-                                       "header_mismatch", "bad_recorded",   "bad_replayed"};
-
 static void compare(void) {
     const uint32_t version = next_version();
     const uint32_t is_ignored = strcmp(next_word(), "yes") == 0;
@@ -223,7 +220,7 @@ static void compare(void) {
                                              is_ignored, &verdict, JOURNAL_VERDICT_NUMBERS, written.bytes,
                                              written.room));
 
-    say("%s %" PRIu64, length < 0 ? journal_error_text(length) : verdicts[verdict.kind], verdict.index);
+    say("%s %" PRIu64, length < 0 ? journal_error_text(length) : journal_verdict_name(verdict.kind), verdict.index);
     free(recorded.bytes);
     free(replayed.bytes);
 }
@@ -279,7 +276,7 @@ static void say_fields(const struct buffer *recorded, const struct journal_reade
 /* Where a replay leaves its recording; no item if that is its end. */
 static void say_mismatch(const struct buffer *recorded, const struct journal_reader_item *item,
                          const struct journal_replay *replay, const struct journal_mismatch *mismatch) {
-    say("%s %" PRIu64, verdicts[mismatch->kind], mismatch->index);
+    say("%s %" PRIu64, journal_verdict_name(mismatch->kind), mismatch->index);
     if (mismatch->recorded_size == 0) {
         say(" -");
     } else {
@@ -344,13 +341,13 @@ static void replay(void) {
     say("none");
     say_expected(&recorded, &checked);
     while (journal_reader_next(&reader, &item) == 1) {
-        say(", %s", check_item(&recorded, &item, &checked, &said) == 0 ? "none" : verdicts[said.kind]);
+        say(", %s", check_item(&recorded, &item, &checked, &said) == 0 ? "none" : journal_verdict_name(said.kind));
         say_expected(&recorded, &checked);
     }
     if (finish(&recorded, &checked, &said) == 0) {
         say("; none");
     } else {
-        say("; %s %" PRIu64, verdicts[said.kind], said.index);
+        say("; %s %" PRIu64, journal_verdict_name(said.kind), said.index);
     }
     journal_reader_free(&reader);
     free(recorded.bytes);
@@ -359,13 +356,10 @@ static void replay(void) {
 /* How many bytes of a recording follow its last whole item. */
 static void rest(void) {
     const uint32_t version = next_version();
-    struct journal_reader reader = reader_of_next(version);
-    struct journal_reader_item item;
+    struct buffer recorded = next_bytes();
 
-    while (journal_reader_next(&reader, &item) == 1) {
-    }
-    say("%zu", journal_reader_pending(&reader));
-    journal_reader_free(&reader);
+    say("%zu", journal_recorded_rest(version, recorded.bytes, recorded.length));
+    free(recorded.bytes);
 }
 
 /*
@@ -672,9 +666,6 @@ static void decode(void) {
  */
 
 static void json(void) {
-    static const char *const reasons[] = {NULL,         "not_json",     "unknown_member", "repeated_member",
-                                          "several_members", "wrong_kind", "out_of_range", "not_base64",
-                                          "too_deep"};
     const uint32_t version = next_version();
     const char *name = next_word();
     struct buffer text = next_bytes();
@@ -693,9 +684,9 @@ static void json(void) {
     if (length < 0 || reading.kind == JOURNAL_READ || reading.kind > JOURNAL_JSON_TOO_DEEP) {
         say_written(length);
     } else if (reading.kind == JOURNAL_JSON_NOT_JSON) {
-        say("%s %" PRIu64, reasons[reading.kind], reading.offset);
+        say("%s %" PRIu64, journal_reading_name(reading.kind), reading.offset);
     } else {
-        say("%s%s", reasons[reading.kind], length > 0 ? " " : "");
+        say("%s%s", journal_reading_name(reading.kind), length > 0 ? " " : "");
         append(&found, written.bytes, (size_t)length);
     }
     free(text.bytes);

@@ -5,7 +5,7 @@
  * those of journal_next over the whole stream, and so are the trailing bytes, with their header. Every third allocation
  * fails, after which the same bytes are given again. Within a limit that is one byte less than a payload has, the
  * reader ends at the first such message, and the error stays. What the stream ends with is looked at after each chunk,
- * and for each beginning of an item. The last line is 'N passed, M failed'.
+ * and for each beginning of an item, also as a recording. The last line is 'N passed, M failed'.
  */
 #include <stdio.h>
 #include <stdlib.h>
@@ -174,6 +174,42 @@ static void check_memory(void) {
     outcome("memory", "-", 0, is_right && memory.bytes == NULL && memory.size == 0);
 }
 
+/* A call is made again if it has more bytes than the memory, which grows; an allocation that fails is its error. */
+static void check_memory_for(void) {
+    static const int64_t enough[] = {JOURNAL_MALFORMED, 0, 1, 10};
+    struct journal_memory memory = {NULL, 0};
+    int64_t result = 10;
+    int is_right = journal_memory_grow_for(&memory, &result) && memory.size == 10 && result == 10;
+
+    for (size_t i = 0; i < sizeof enough / sizeof enough[0]; i++) {
+        result = enough[i];
+        is_right = is_right && !journal_memory_grow_for(&memory, &result) && memory.size == 10 && result == enough[i];
+    }
+    is_failing = 1;
+    allocations = 2;
+    result = 11;
+    is_right = is_right && !journal_memory_grow_for(&memory, &result) && memory.size == 10;
+    outcome("memory for a call", "-", 0, is_right && result == JOURNAL_OUT_OF_MEMORY);
+    is_failing = 0;
+    journal_memory_free(&memory);
+}
+
+/* The text of a difference, which is written once there is memory for it. */
+static void check_call(void) {
+    static const uint8_t first[] = {0x0A, 1, 'a'}, second[] = {0x0A, 1, 'b'};
+    static const char wanted[] = "\n   key: 'a' != 'b'";
+    struct journal_memory memory = {NULL, 0};
+    int64_t length;
+
+    do {
+        length = journal_difference(JOURNAL_TYPE_SET_STATE_COMMAND, first, sizeof first, second, sizeof second,
+                                    memory.bytes, memory.size);
+    } while (journal_memory_grow_for(&memory, &length));
+    outcome("a call that is made again", "-", 0, length == (int64_t)strlen(wanted) &&
+            memcmp(memory.bytes, wanted, (size_t)length) == 0);
+    journal_memory_free(&memory);
+}
+
 /* Each beginning of an item is the rest of a stream that ends there, after an item and without one. */
 static void check_rest(void) {
     static const uint8_t stream[] = {0x00, 0x03, 0,    0,    0,    0,    0,    0,   0x04,
@@ -191,7 +227,10 @@ static void check_rest(void) {
         is_right = is_right && has_rest(&reader, begin, stream + begin, length - begin);
         journal_reader_free(&reader);
         outcome("the rest", "-", length, is_right && has_rest(&reader, begin, NULL, 0));
+        outcome("the rest of a recording", "-", length, journal_recorded_rest(8, stream, length) == length - begin);
     }
+    outcome("the rest of no recording", "-", 0, journal_recorded_rest(8, NULL, 0) == 0);
+    outcome("all at no version", "-", 0, journal_recorded_rest(4, stream, sizeof stream) == sizeof stream);
 }
 
 /* A code is that of a command, of a notification or of neither, whatever the name of its type is. */
@@ -232,14 +271,39 @@ static void check_texts(void) {
     outcome("no error", "-", 0, strcmp(journal_error_text(0), "no error") == 0);
 }
 
+/* The kinds have the names of their constants, which the cases of packages read too; any other number is unknown. */
+static void check_names(void) {
+    static const char *const verdicts[] = {"same",            "recorded_ended", "replayed_ended", "type_mismatch",
+                                           "header_mismatch", "bad_recorded",   "bad_replayed",   "unknown"};
+    int is_right = 1;
+
+    for (uint64_t kind = JOURNAL_VERDICT_SAME; kind <= JOURNAL_VERDICT_BAD_REPLAYED + 1; kind++) {
+        is_right = is_right && strcmp(journal_verdict_name(kind), verdicts[kind]) == 0;
+    }
+    outcome("the kinds of verdicts", "-", 0, is_right);
+    outcome("a JSON text that is read", "-", 0, strcmp(journal_reading_name(JOURNAL_READ), "read") == 0);
+    outcome("a table that is written", "-", 0, strcmp(journal_writing_name(JOURNAL_WRITTEN), "written") == 0);
+    outcome("one that is not", "-", 0,
+            strcmp(journal_writing_name(JOURNAL_ENTRY_OUT_OF_BOUNDS), "out_of_bounds") == 0);
+    outcome("the name of a signal", "-", 0, strcmp(journal_id_name(JOURNAL_SIGNAL_NAME), "signal_name") == 0);
+    outcome("a failure", "-", 0, strcmp(journal_result_name(JOURNAL_RESULT_FAILURE), "failure") == 0);
+    outcome("any number", "-", 0, strcmp(journal_reading_name(UINT64_MAX), "unknown") == 0 &&
+            strcmp(journal_writing_name(UINT64_MAX), "unknown") == 0 &&
+            strcmp(journal_id_name(UINT64_MAX), "unknown") == 0 &&
+            strcmp(journal_result_name(UINT64_MAX), "unknown") == 0);
+}
+
 int main(int count, char **words) {
     for (int i = 2; i < count; i++) {
         check_stream((uint32_t)strtoul(words[1], NULL, 10), words[i]);
     }
     check_memory();
+    check_memory_for();
+    check_call();
     check_rest();
     check_codes();
     check_texts();
+    check_names();
     printf("%ld passed, %ld failed\n", passed, failed);
     return failed != 0;
 }

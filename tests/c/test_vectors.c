@@ -193,9 +193,6 @@ static void json(void) {
 
 /* A JSON text: the payload that it is read as, or why it is not, and where. */
 static void read_json(void) {
-    static const char *const reasons[] = {NULL,         "not_json",     "unknown_member", "repeated_member",
-                                          "several_members", "wrong_kind", "out_of_range", "not_base64",
-                                          "too_deep"};
     uint32_t schema = next_schema();
     struct buffer text = next_bytes();
     struct journal_reading reading = {0, 0};
@@ -206,7 +203,7 @@ static void read_json(void) {
     if (length < 0 || reading.kind == JOURNAL_READ || reading.kind > JOURNAL_JSON_TOO_DEEP) {
         say_written(length);
     } else {
-        append_text(&found, reasons[reading.kind]);
+        append_text(&found, journal_reading_name(reading.kind));
         if (reading.kind == JOURNAL_JSON_NOT_JSON) {
             snprintf(offset, sizeof offset, " %" PRIu64, reading.offset);
             append_text(&found, offset);

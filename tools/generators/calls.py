@@ -39,6 +39,11 @@ def block(texts):
     return "/*\n" + commented(texts, " * ") + " */\n"
 
 
+def installed(texts):
+    """Paragraphs of an installed header, next to which no page is: each is named without the end of its file."""
+    return [re.sub(r"\b([\w/]+)\.md\b", r"the page \1 of the documentation", text) for text in texts]
+
+
 def c_parameters(call):
     """The parameters of a call in C, as a type and a name each."""
     found = [f"uint{BITS[name]}_t {name}" for name in call.takes]
@@ -74,9 +79,23 @@ def c_definition(name, value, said, width):
 def c_kinds(entry):
     values = list(constants(entry))
     width = max(len(f"#define JOURNAL_{name} {number}") for number, name, _, _ in values)
-    return block(paragraphs(entry["comment"])) + "".join(
+    text = block(paragraphs(entry["comment"])) + "".join(
         c_definition(name, number, said, width) for number, name, _, said in values
     )
+    # the other kinds are told apart and not printed, in the packages too
+    return text + (f"\n{c_kind_name(entry)}" if entry["python"] else "")
+
+
+def c_kind_name(entry):
+    """The function that tells the name of a kind, with a case for each: the word that the packages have."""
+    values = [(constant, name.lower()) for _, constant, name, _ in constants(entry)]
+    constant, name = values[-1]
+    said = (
+        f'The name of such a kind, as "{name}" of JOURNAL_{constant}, in a text that stays and ends with a zero byte. '
+        'It is "unknown" of a kind that this header does not know.'
+    )
+    cases = "".join(f'    case JOURNAL_{constant}:\n        return "{name}";\n' for constant, name in values)
+    return block([said]) + KIND_NAME.replace("KINDS", entry["kinds"]).replace("CASES", cases)
 
 
 def c_struct(entry):
@@ -112,7 +131,7 @@ def c_versions(said):
 def c_entry(entry):
     if "call" in entry:
         call = next(call for call in calls() if call.call == entry["call"])
-        return block(comment(call)) + c_declaration(call)
+        return block(installed(comment(call))) + c_declaration(call)
     if "kinds" in entry:
         return c_kinds(entry)
     if "struct" in entry:
@@ -140,10 +159,16 @@ PREAMBLE = """\
  * the end.
  *
  * Names. A constant of a family begins with its name: the code of a type with JOURNAL_TYPE_, the number of a schema
- * with JOURNAL_SCHEMA_. Kinds begin with JOURNAL_ITEM_, JOURNAL_FIELD_, JOURNAL_RESULT_ or JOURNAL_VERDICT_, and
- * reasons with JOURNAL_JSON_ or JOURNAL_ENTRY_. The errors, which come first, have no such word and are negative.
+ * with JOURNAL_SCHEMA_. Kinds begin with JOURNAL_ITEM_, JOURNAL_FIELD_, JOURNAL_RESULT_, JOURNAL_VERDICT_ or
+ * JOURNAL_LIST_, and those of an id end with _ID or _NAME. Options begin with JOURNAL_REPLAY_, directions with
+ * JOURNAL_NUMBERING_, and reasons with JOURNAL_JSON_ or JOURNAL_ENTRY_; without a reason it is JOURNAL_READ or
+ * JOURNAL_WRITTEN. The errors, which come first, have no such word and are negative. What a program prints has a name
+ * too, as "header_mismatch" by journal_verdict_name.
  *
  * Threads. Calls share nothing: any number of threads may make them at once.
+ *
+ * Documentation. The page docs/FORMAT is docs/FORMAT.html in the archive of reference pages of a release, and
+ * docs/FORMAT.md in a clone; docs/C is the page of this library.
  */
 #ifndef PENDRATSOA_H
 #define PENDRATSOA_H
@@ -183,6 +208,15 @@ CASES    default:
 }
 """
 
+KIND_NAME = """\
+static inline const char *journal_KINDS_name(uint64_t kind) {
+    switch (kind) {
+CASES    default:
+        return "unknown";
+    }
+}
+"""
+
 END = "\n#ifdef __cplusplus\n}\n#endif\n\n#endif\n"
 
 
@@ -192,7 +226,7 @@ def header():
         text += f"/* {error['comment']} */\n#define JOURNAL_{error['name']} ({error['number']})\n"
     text += f"\n{KIND_OF_ERROR}\n{c_error_text()}"
     for section in described()["sections"]:
-        said = [" ".join([section["title"], *section.get("comment", [])])]
+        said = installed([" ".join([section["title"], *section.get("comment", [])])])
         text += "\n/*\n" + commented(said, " * ") + " */\n"
         text += "".join(f"\n{c_entry(entry)}" for entry in section["has"])
         if any("schemas" in entry for entry in section["has"]):

@@ -63,7 +63,13 @@ TITLES = {
     "journal_renumber_stream": "write a stream at other field numbers",
     "journal_numbering_dump": "a stream as JSON by a descriptor set",
     "journal_error_text": "what an error says",
+    "journal_reading_name": "the name of how a JSON text was read",
+    "journal_writing_name": "the name of how a table of fields was written",
+    "journal_id_name": "the name of the kind of an id",
+    "journal_result_name": "the name of the kind of a result",
+    "journal_verdict_name": "the name of the kind of a verdict",
     "journal_memory_grow": "make memory larger",
+    "journal_memory_grow_for": "make memory larger for what a call writes",
     "journal_memory_free": "free memory",
     "journal_is_command": "whether a code is that of a command",
     "journal_is_notification": "whether a code is that of a notification",
@@ -76,6 +82,7 @@ TITLES = {
     "journal_reader_feed": "append a chunk of a stream",
     "journal_reader_next": "take the next item of a stream",
     "journal_reader_free": "free the memory of a reader",
+    "journal_recorded_rest": "how many bytes follow the items of a recording",
 }
 
 # The kinds of proto/calls.json that a struct has numbers of, if they do not have its name.
@@ -85,8 +92,11 @@ KINDS_OF = {
     "replay": ("option",),
 }
 
-# Those that a call takes in another way.
-KINDS_TAKEN = {"numbering": ("direction",)}
+# Those that a function takes in another way.
+KINDS_TAKEN = {
+    "numbering": ("direction",),
+    **{f"{entry['kinds']}_name": (entry["kinds"],) for entry in entries("kinds") if entry["python"]},
+}
 
 INCLUDED = "#include <pendratsoa.h>\n#include <pendratsoa_messages.h>\n#include <pendratsoa_reader.h>"
 
