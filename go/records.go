@@ -5231,7 +5231,7 @@ var fieldReasons = [...]string{
 	fieldsUnknownField:   "unknown field",
 	fieldsOutOfOrder:     "out of order",
 	fieldsSeveralMembers: "several members of a oneof",
-	fieldsWrongKind:      "wrong kind",
+	fieldsWrongKind:      "wrong kind of value",
 	fieldsOutOfRange:     "out of range",
 	fieldsNotUtf8:        "not UTF-8",
 	fieldsOutOfBounds:    "out of bounds",

@@ -148,7 +148,7 @@ def from_json(schema: Schema, json: Union[str, BytesLike]) -> bytes:
     if kind == 0:
         return found
     request = Request("from_json", schema=schema, json=json)
-    raise request.not_taken(kind_of("from_json", JsonReason, kind, "a JSON text"), offset, found.decode())
+    raise request.not_taken(kind_of("from_json", JsonReason, kind, "JSON text"), offset, found.decode())
 
 
 def notification(code: int, payload: BytesLike) -> Notification:
@@ -157,10 +157,10 @@ def notification(code: int, payload: BytesLike) -> Notification:
     `Unknown` if the code is not that of a notification; `Malformed`, `NoId`, `NoResult`, `TooLong`, `OutOfMemory`.
     """
     found, (kind, number, name_length, result_kind) = named.notification(code, payload)
-    id_kind = kind_of("notification", IdKind, kind, "an id")
+    id_kind = kind_of("notification", IdKind, kind, "id")
     name, result = found[:name_length], found[name_length:]
     id_: Union[int, str] = name.decode() if id_kind is IdKind.SIGNAL_NAME else number
-    return Notification(id_kind, id_, kind_of("notification", ResultKind, result_kind, "a result"), result)
+    return Notification(id_kind, id_, kind_of("notification", ResultKind, result_kind, "result"), result)
 
 
 def header_eq(code: int, first: BytesLike, second: BytesLike, ignore_payloads: bool = False) -> bool:
@@ -187,12 +187,12 @@ def compare_journals(version: int, recorded: BytesLike, replayed: BytesLike, ign
     such version; `OutOfMemory`.
     """
     text, (kind, index) = named.compare_journals(version, recorded, replayed, ignore_payloads)
-    return Verdict(kind_of("compare_journals", VerdictKind, kind, "a verdict"), index, text.decode())
+    return Verdict(kind_of("compare_journals", VerdictKind, kind, "verdict"), index, text.decode())
 
 
 def kind_of(call: str, kinds: Type[K], number: int, what: str) -> K:
     """The kind of a number. A later library may have further ones."""
     kind = kinds.of(number)
     if kind is None:
-        raise Request(call).unexpected(f"{what} of the kind {number}")
+        raise Request(call).unexpected(f"the kind of {what} {number}")
     return kind

@@ -46,16 +46,14 @@ CALLS: Dict[str, Tuple[str, ...]] = {
 
 
 class NamedCall(NamedTuple):
-    """A call that is made by its name: its function, its name in this package, what it takes of its caller, what its
-    code has to be that of, how many numbers it is given, as bytes, and whether it changes them, how many numbers it
-    writes, how many bytes each has of what it writes and counts, a byte or an entry of a table, or 0, the room for
-    these that is tried first, which is a multiple of the bytes that it reads, and more, and how many bytes an entry has
-    of the table that it reads, or 0."""
+    """A call that is made by its name: its function, its name in this package, what it takes of its caller, how many
+    numbers it is given, as bytes, and whether it changes them, how many numbers it writes, how many bytes each has of
+    what it writes and counts, a byte or an entry of a table, or 0, the room for these that is tried first, which is a
+    multiple of the bytes that it reads, and more, and how many bytes an entry has of the table that it reads, or 0."""
 
     function: str
     name: str
     takes: Tuple[str, ...]
-    kind: str
     given: int
     changes: bool
     numbers: int
@@ -67,23 +65,22 @@ class NamedCall(NamedTuple):
 
 # in the order in which the compiled module has them
 NAMED_CALLS: Tuple[NamedCall, ...] = (
-    NamedCall("journal_library_version", "library_version", (), "a type", 0, False, 0, 1, 0, 16, 0),
-    NamedCall("journal_schema", "schema", ("version", "code"), "a named type", 0, False, 0, 0, 0, 0, 0),
-    NamedCall("journal_type_name", "type_name", ("code",), "a type", 0, False, 0, 1, 0, 64, 0),
-    NamedCall("journal_type_code", "type_code", ("name",), "a type", 0, False, 0, 0, 0, 0, 0),
-    NamedCall("journal_header", "header", ("version", "code", "payload_length"), "a type", 0, False, 0, 1, 0, 8, 0),
-    NamedCall("journal_frame", "frame", ("version", "code", "payload"), "a named type", 0, False, 0, 1, 1, 32, 0),
-    NamedCall("journal_is_well_formed", "is_well_formed", ("schema", "payload"), "a type", 0, False, 0, 0, 0, 0, 0),
-    NamedCall("journal_canonical", "canonical", ("schema", "payload"), "a type", 0, False, 0, 1, 1, 16, 0),
-    NamedCall("journal_merge", "merge", ("schema", "first", "second"), "a type", 0, False, 0, 1, 1, 16, 0),
-    NamedCall("journal_json", "to_json", ("schema", "payload"), "a type", 0, False, 0, 1, 2, 128, 0),
-    NamedCall("journal_payload_of_json", "from_json", ("schema", "json"), "a type", 0, False, 2, 1, 1, 0, 0),
-    NamedCall("journal_notification", "notification", ("code", "payload"), "a notification", 0, False, 4, 1, 1, 16, 0),
+    NamedCall("journal_library_version", "library_version", (), 0, False, 0, 1, 0, 16, 0),
+    NamedCall("journal_schema", "schema", ("version", "code"), 0, False, 0, 0, 0, 0, 0),
+    NamedCall("journal_type_name", "type_name", ("code",), 0, False, 0, 1, 0, 64, 0),
+    NamedCall("journal_type_code", "type_code", ("name",), 0, False, 0, 0, 0, 0, 0),
+    NamedCall("journal_header", "header", ("version", "code", "payload_length"), 0, False, 0, 1, 0, 8, 0),
+    NamedCall("journal_frame", "frame", ("version", "code", "payload"), 0, False, 0, 1, 1, 32, 0),
+    NamedCall("journal_is_well_formed", "is_well_formed", ("schema", "payload"), 0, False, 0, 0, 0, 0, 0),
+    NamedCall("journal_canonical", "canonical", ("schema", "payload"), 0, False, 0, 1, 1, 16, 0),
+    NamedCall("journal_merge", "merge", ("schema", "first", "second"), 0, False, 0, 1, 1, 16, 0),
+    NamedCall("journal_json", "to_json", ("schema", "payload"), 0, False, 0, 1, 2, 128, 0),
+    NamedCall("journal_payload_of_json", "from_json", ("schema", "json"), 0, False, 2, 1, 1, 0, 0),
+    NamedCall("journal_notification", "notification", ("code", "payload"), 0, False, 4, 1, 1, 16, 0),
     NamedCall(
         "journal_header_eq",
         "header_eq",
         ("code", "first", "second", "ignore_payloads"),
-        "a command",
         0,
         False,
         0,
@@ -92,12 +89,11 @@ NAMED_CALLS: Tuple[NamedCall, ...] = (
         0,
         0,
     ),
-    NamedCall("journal_difference", "difference", ("code", "first", "second"), "a command", 0, False, 0, 1, 0, 256, 0),
+    NamedCall("journal_difference", "difference", ("code", "first", "second"), 0, False, 0, 1, 0, 256, 0),
     NamedCall(
         "journal_changed_field",
         "changed_field",
         ("code", "index", "first", "second"),
-        "a command",
         0,
         False,
         3,
@@ -110,7 +106,6 @@ NAMED_CALLS: Tuple[NamedCall, ...] = (
         "journal_verdict",
         "compare_journals",
         ("version", "recorded", "replayed", "ignore_payloads"),
-        "a type",
         0,
         False,
         2,
@@ -119,24 +114,11 @@ NAMED_CALLS: Tuple[NamedCall, ...] = (
         1024,
         0,
     ),
-    NamedCall(
-        "journal_replay_check",
-        "check",
-        ("code", "recorded", "replayed", "replay"),
-        "a type",
-        6,
-        True,
-        6,
-        0,
-        0,
-        0,
-        0,
-    ),
+    NamedCall("journal_replay_check", "check", ("code", "recorded", "replayed", "replay"), 6, True, 6, 0, 0, 0, 0),
     NamedCall(
         "journal_replay_text",
         "replay_text",
         ("code", "recorded", "replayed", "replay"),
-        "a type",
         6,
         False,
         0,
@@ -145,37 +127,13 @@ NAMED_CALLS: Tuple[NamedCall, ...] = (
         1024,
         0,
     ),
-    NamedCall("journal_replay_expected", "expected", ("recorded", "replay"), "a type", 6, False, 3, 0, 0, 0, 0),
-    NamedCall("journal_replay_finish", "finish", ("recorded", "replay"), "a type", 6, False, 6, 0, 0, 0, 0),
-    NamedCall("journal_numbering", "numbering", ("direction", "set", "renames"), "a type", 0, False, 0, 40, 0, 256, 0),
-    NamedCall("journal_numbering_text", "Numbering", ("set", "renames"), "a type", 0, False, 1, 1, 4, 4096, 0),
-    NamedCall("journal_renumber", "renumber", ("schema", "table", "payload"), "a type", 0, False, 0, 1, 2, 16, 40),
-    NamedCall(
-        "journal_renumber_stream",
-        "renumber_stream",
-        ("version", "table", "stream"),
-        "a type",
-        0,
-        False,
-        0,
-        1,
-        2,
-        16,
-        40,
-    ),
-    NamedCall(
-        "journal_numbering_dump",
-        "dump",
-        ("version", "set", "renames", "stream"),
-        "a type",
-        0,
-        False,
-        0,
-        1,
-        8,
-        4096,
-        0,
-    ),
+    NamedCall("journal_replay_expected", "expected", ("recorded", "replay"), 6, False, 3, 0, 0, 0, 0),
+    NamedCall("journal_replay_finish", "finish", ("recorded", "replay"), 6, False, 6, 0, 0, 0, 0),
+    NamedCall("journal_numbering", "numbering", ("direction", "set", "renames"), 0, False, 0, 40, 0, 256, 0),
+    NamedCall("journal_numbering_text", "Numbering", ("set", "renames"), 0, False, 1, 1, 4, 4096, 0),
+    NamedCall("journal_renumber", "renumber", ("schema", "table", "payload"), 0, False, 0, 1, 2, 16, 40),
+    NamedCall("journal_renumber_stream", "renumber_stream", ("version", "table", "stream"), 0, False, 0, 1, 2, 16, 40),
+    NamedCall("journal_numbering_dump", "dump", ("version", "set", "renames", "stream"), 0, False, 0, 1, 8, 4096, 0),
 )
 
 

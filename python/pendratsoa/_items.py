@@ -17,7 +17,7 @@ from ._protocol import COMMAND_CODES, NOTIFICATION_CODES
 from ._records import MessageRecord, Record, earlier_frame, earlier_schema, schema_of
 from ._kinds import BytesLike
 from ._named import Renumber, named
-from ._request import Request, shown
+from ._request import Request, code_text, shown
 from ._tables import schema_of_type, written_at
 from .messages import RECORDS, AnyMessage, TypeName
 
@@ -400,7 +400,7 @@ def _class_of(version: int, code: int) -> Optional[Type[MessageRecord]]:
         raise
     record: Optional[Type[Record]] = RECORDS[schema] if schema < len(RECORDS) else None
     if record is None or not issubclass(record, MessageRecord):
-        raise JournalError(f"the schema {schema} is of no record that this package knows", call="message")
+        raise Request("message").unexpected(f"the schema {schema}")
     return record
 
 
@@ -424,7 +424,7 @@ def _is_custom_entry(version: int, code: int) -> bool:
 def _check_class(record: object) -> None:
     """Says that what is looked for is not a class of a message's record, as it may be where no types are checked."""
     if not (isinstance(record, type) and issubclass(record, MessageRecord)):
-        shown_as = record.__name__ if isinstance(record, type) else repr(record)
+        shown_as = record.__name__ if isinstance(record, type) else f"an object of {type(record).__name__}"
         raise TypeError(f"record: record must be the class of a message's record, not {shown_as}")
 
 
@@ -438,15 +438,15 @@ def name_of(code: int) -> str:
     try:
         return _calls.type_name(code)
     except Unknown:
-        return f"code {code:#x}"
+        return f"code {code_text(code)}"
 
 
 def type_of(code: int) -> str:
     """The name of a type and its code, or only the code where no type has it."""
     try:
-        return f"{_calls.type_name(code)} ({code:#06x})"
+        return f"{_calls.type_name(code)} ({code_text(code)})"
     except Unknown:
-        return f"{code:#06x}"
+        return code_text(code)
 
 
 def _fields(item: Union[Message, Skipped]) -> str:

@@ -30,7 +30,7 @@ PLACES.update({name: [call.function for call in NAMED_CALLS].index(function) for
 def request_of(place: int, name: str, given: Tuple[Any, ...]) -> Request:
     """A call with its arguments by their names."""
     call = NAMED_CALLS[place]
-    return Request(name, call.kind, **dict(zip(call.takes, given)))
+    return Request(name, **dict(zip(call.takes, given)))
 
 
 def checked(place: int, name: str, given: Tuple[Any, ...]) -> Tuple[Any, ...]:

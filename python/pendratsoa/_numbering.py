@@ -11,7 +11,7 @@ from ._fast import pending_of
 from ._items import Message, renumbered
 from ._kinds import BytesLike
 from ._named import Renumber, named
-from ._request import Request
+from ._request import Request, escaped, quoted
 from ._tables import Tables
 
 if TYPE_CHECKING:
@@ -56,7 +56,7 @@ class Numbering(Tables):
         if reason is not None:
             raise _no_numbering(request, reason, self._text)
         if kind != LIST_LISTED:
-            raise request.unexpected(f"a numbering of the kind {kind}")
+            raise request.unexpected(f"the kind of numbering {kind}")
         super().__init__(data, lines)
         self._given = data, lines
 
@@ -109,9 +109,8 @@ def _no_numbering(request: Request, reason: NumberingReason, text: str) -> Numbe
     """The error that no numbering comes of a set and renames: which of them has a fault, and the fault."""
     argument = WRONG[reason]
     value = request.arguments[argument]
-    return NumberingError(
-        f"{argument}: {text}", call=request.call, argument=argument, value=value, reason=reason, text=text
-    )
+    said = f"{argument.replace('_', ' ')}: {escaped(text)}"
+    return NumberingError(said, call=request.call, argument=argument, value=value, reason=reason, text=text)
 
 
 def _lines_of(request: Request, renames: Optional[Mapping[str, str]]) -> bytes:
@@ -126,7 +125,7 @@ def _lines_of(request: Request, renames: Optional[Mapping[str, str]]) -> bytes:
             if not isinstance(name, str):
                 raise TypeError(f"Numbering: a name in renames must be a str, not {type(name).__name__}")
             if "=" in name or "\n" in name:
-                raise _no_numbering(request, NumberingReason.NO_RENAME, f"{name!r} is not the name of a message")
+                raise _no_numbering(request, NumberingReason.NO_RENAME, f"{quoted(name)} is not the name of a message")
         lines.append("=".join(names) + "\n")
     # half a surrogate is in no name, which the library says
     return "".join(lines).encode("utf-8", "surrogatepass")

@@ -19,7 +19,7 @@ from ._errors import ERRORS, FieldError, JournalError, NotCanonical, Unknown
 from ._kinds import BytesLike
 from ._library import library
 from ._protocol import SCHEMA_NAMES
-from ._request import Request
+from ._request import U64_END, Request, why
 from ._tables import written_at
 
 if TYPE_CHECKING:
@@ -30,7 +30,6 @@ if TYPE_CHECKING:
 ENTRIES = 64
 BYTES = 1024
 
-U64_END = 1 << 64
 I64_END = 1 << 63
 
 R = TypeVar("R", bound="Record")
@@ -190,7 +189,7 @@ def earlier_frame(call: str, version: int, code: int, schema: int, payload: byte
     request = Request(call, version=version)
     number = request.version()
     if request.step(_calls.schema, number, code) != schema:
-        raise Unknown(f"there is no {SCHEMA_NAMES[schema]} at version {version}", call=call)
+        raise Unknown(f"protocol version {version} has no {SCHEMA_NAMES[schema]}", call=call)
     found = request.step(_calls.canonical, schema, payload)
     return request.step(_calls.header, number, code, len(found)) + found
 
@@ -252,7 +251,7 @@ def _long_payload(writer: Writer, parameters: Tuple[Any, ...], length: int, scra
         return out.raw[:length]
     reason = FieldReason.of(number)
     if reason is None:
-        raise request.unexpected(f"a table of fields of the kind {number}")
+        raise request.unexpected(f"the kind of table {number}")
     raise _field_error(writer.of, writer.table, index, reason)
 
 
@@ -303,8 +302,7 @@ def signed(number: int) -> int:
 
 def unknown(name: str, number: int) -> JournalError:
     """The error that a later library knows a further field."""
-    text = f"the library returned the field {number} of {name}, which this module does not know"
-    return JournalError(text, call="decode")
+    return Request("decode").unexpected(f"the field {number} of {name}")
 
 
 class Writer:
@@ -393,8 +391,7 @@ class Writer:
 
 def _field_error(record: Type[Record], table: List[int], index: int, reason: FieldReason) -> FieldError:
     path = _path(record, table, index)
-    text = "not UTF-8" if reason is FieldReason.NOT_UTF8 else reason.replace("_", " ")
-    return FieldError(f"{record.__name__}.{path}: {text}", call="encode", reason=reason, path=path)
+    return FieldError(f"field {path}: {why(reason)}", call="encode", reason=reason, path=path)
 
 
 def _path(record: Type[Record], table: List[int], index: int, is_oneof: bool = False) -> str:

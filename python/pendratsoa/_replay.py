@@ -173,7 +173,7 @@ class Replay:
     def _mismatch(self, call: str, code: int, payload: BytesLike, numbers: Tuple[int, ...]) -> Mismatch:
         """The mismatch of these numbers, of the item of this code and payload."""
         number, index, replayed_offset, recorded_offset, _, size = numbers
-        kind = _calls.kind_of(call, VerdictKind, number, "a verdict")
+        kind = _calls.kind_of(call, VerdictKind, number, "verdict")
         text = ""
         fields: Tuple[ChangedField, ...] = ()
         if kind in (VerdictKind.TYPE_MISMATCH, VerdictKind.HEADER_MISMATCH):

@@ -3,6 +3,7 @@
 from __future__ import annotations
 
 import operator
+import re
 from typing import Any, Callable, Dict, Optional, SupportsIndex, Tuple, Type, TypeVar, cast
 
 from ._declared import FIRST_VERSION, LAST_VERSION, JsonReason
@@ -27,45 +28,70 @@ T = TypeVar("T")
 # the number of schemas, whose numbers begin at 0
 SCHEMAS = len(SCHEMA_NAMES)
 
+TOO_LONG = "is too long: more than 4,294,967,295 bytes"
+
 # what is wrong: with a payload, which comes before these words, or with the call
 TEXTS = {
-    Malformed: "is not well-formed",
+    Malformed: "is malformed",
     NoId: "has no id",
     NoResult: "has an id, and no result",
-    NoRoom: "a slice for numbers was too short",
-    NotCanonical: "is well-formed, and not canonical",
-    OutOfMemory: "an allocation failed",
-    TooLong: "the result would have more than 4,294,967,295 bytes",
-    Unknown: "the library does not know an argument",
+    NoRoom: "not enough room",
+    NotCanonical: "is not canonical",
+    OutOfMemory: "out of memory",
+    TooLong: f"payload {TOO_LONG}",
+    Unknown: "unknown, or not of the kind that the call is for",
 }
 
 # what each argument is that may be unknown, and which numbers are known
 KNOWN = {
     "version": ("protocol version", f"{FIRST_VERSION} to {LAST_VERSION}"),
     "schema": ("schema", f"0 to {SCHEMAS - 1}"),
-    "name": ("type name", ""),
+    "name": ("type", ""),
 }
 
-# why a JSON text is rejected
+# why a JSON text or a field is rejected, where that is not the name of the reason
 REASONS = {
-    JsonReason.NOT_JSON: "not JSON",
-    JsonReason.UNKNOWN_MEMBER: "unknown member",
-    JsonReason.REPEATED_MEMBER: "repeated member",
-    JsonReason.SEVERAL_MEMBERS: "several members of a oneof",
-    JsonReason.WRONG_KIND: "wrong kind of value",
-    JsonReason.OUT_OF_RANGE: "out of range",
-    JsonReason.NOT_BASE64: "not base64",
-    JsonReason.TOO_DEEP: "too deep",
+    "not_json": "not JSON",
+    "not_utf8": "not UTF-8",
+    "several_members": "several members of a oneof",
+    "wrong_kind": "wrong kind of value",
 }
 
-# what comes after the numbers that fit into 16 and 32 bits
+# what comes after the numbers that fit into 16, 32 and 64 bits
 U16_END = 1 << 16
 U32_END = 1 << 32
+U64_END = 1 << 64
+
+# what ends a line, a terminal takes as a command, or turns the text after it around; and what is in no UTF-8
+CONTROLS = re.compile("[\x00-\x1f\x7f-\x9f\u2028-\u202e\u2066-\u2069\ud800-\udfff]")
+
+# how many characters of a name are shown
+MOST_SHOWN = 64
 
 
 def byte_count(count: int) -> str:
     """A number of bytes as texts show it."""
     return "1 byte" if count == 1 else f"{count} bytes"
+
+
+def escaped(text: str) -> str:
+    """A text that came from outside, as texts of errors have it: on one line, and with no command for a terminal."""
+    return CONTROLS.sub(lambda found: f"\\u{ord(found[0]):04x}", text)
+
+
+def quoted(name: str) -> str:
+    """A name that came from outside, in quotes, of a long one its beginning."""
+    return f'"{escaped(name[:MOST_SHOWN])}"{".." if len(name) > MOST_SHOWN else ""}'
+
+
+def why(reason: str) -> str:
+    """Why a JSON text or a field is rejected."""
+    return REASONS.get(reason, reason.replace("_", " "))
+
+
+def code_text(code: int) -> str:
+    """The code of a type in hexadecimal digits."""
+    return f"{code:#06x}" if 0 <= code < U64_END else shown(code)
 
 
 def shown(value: object) -> str:
@@ -87,20 +113,18 @@ def meant(argument: str, name: str) -> str:
     else:
         other = name.partition("Message")[0]
         is_one = name in SCHEMA_NAMES and other != name
-    return f"; did you mean {other!r}?" if is_one else ""
+    return f"; did you mean {quoted(other)}?" if is_one else ""
 
 
 class Request:
     """A call by its name in this package, with its arguments by their names. A method that takes the name of an
     argument checks it, and returns what the library takes in its place."""
 
-    __slots__ = ("call", "arguments", "kind")
+    __slots__ = ("call", "arguments")
 
-    def __init__(self, call: str, kind: str = "a type", **arguments: object) -> None:
+    def __init__(self, call: str, **arguments: object) -> None:
         self.call = call
         self.arguments = arguments
-        # what the code has to be that of, as "a command"
-        self.kind = kind
 
     def checked(self) -> Tuple[Any, ...]:
         """All arguments, as the library takes them."""
@@ -137,7 +161,9 @@ class Request:
         if number < 0:
             raise ValueError(f"{self.call}: {argument} {shown(number)} is negative")
         if number >= U32_END:
-            raise self.error(TooLong, f"{argument} {shown(number)} is more than 4,294,967,295", argument)
+            is_payload = argument == "payload_length"
+            text = f"payload of {shown(number)} bytes" if is_payload else f"{argument} {shown(number)}"
+            raise self.error(TooLong, f"{text} {TOO_LONG}", argument)
         return number
 
     def flag(self, argument: str) -> bool:
@@ -182,7 +208,7 @@ class Request:
     def refused(self, number: int) -> JournalError:
         """The error of a negative number. A later library may have further ones."""
         if number not in ERRORS:
-            return self.unexpected(str(number))
+            return self.unexpected(f"the error {number}")
         kind, arguments = ERRORS[number]
         argument = next((name for name in arguments if name in self.arguments), None)
         if argument is None:
@@ -202,9 +228,10 @@ class Request:
         """The error of a rejected JSON text."""
         value = self.arguments["json"]
         is_json = reason is not JsonReason.NOT_JSON
-        why = f"{path}: {REASONS[reason]}" if path else REASONS[reason]
+        where = f"{escaped(path)}: " if path else ""
+        at = "" if is_json else f" at byte {offset}"
         return JsonError(
-            f"json of {byte_count(len(self.json('json')))}: {why if is_json else f'{why} at byte {offset}'}",
+            f"JSON of {byte_count(len(self.json('json')))}: {where}{why(reason)}{at}",
             call=self.call,
             argument="json",
             value=value,
@@ -215,7 +242,7 @@ class Request:
 
     def unexpected(self, what: str) -> JournalError:
         """The error that a later library may return something new."""
-        return self.error(JournalError, f"the library returned {what}, which this module does not know")
+        return self.error(JournalError, f"the library returned {what}, which this package does not know")
 
     def integer(self, argument: str, what: str = "an int") -> int:
         """A number."""
@@ -235,10 +262,12 @@ class Request:
     def _unknown(self, argument: str) -> JournalError:
         value = self.arguments[argument]
         if argument == "code":
-            return self.error(Unknown, f"code {shown(value)} is not that of {self.kind}", argument)
+            text = f"unknown code {code_text(operator.index(cast(SupportsIndex, value)))}"
+            return self.error(Unknown, f"{text}, or not of the kind that the call is for", argument)
         name, known = KNOWN[argument]
-        more = meant(argument, value) if isinstance(value, str) else f" ({known})" if known else ""
-        return self.error(Unknown, f"unknown {name} {shown(value)}{more}", argument)
+        if isinstance(value, str):
+            return self.error(Unknown, f"unknown {name} {quoted(value)}{meant(argument, value)}", argument)
+        return self.error(Unknown, f"unknown {name} {shown(value)} ({known})", argument)
 
 
 # what checks each argument that is not bytes

@@ -210,7 +210,7 @@ class Stream:
     def _refuse(self, number: int) -> NoReturn:
         """Raises the error of a negative number, or that of a kind of items that is not known."""
         if number >= 0:
-            raise self._request.unexpected(f"an item of the kind {number}")
+            raise self._request.unexpected(f"the kind of item {number}")
         self._check()
         if isinstance(self._request.refused(number), TooLong) and self._limit is not None:
             self._ended = self._too_long(self._pending.head(), self._limit)

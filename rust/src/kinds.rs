@@ -46,7 +46,7 @@ impl FieldReason {
             FieldReason::UnknownField => "unknown field",
             FieldReason::OutOfOrder => "out of order",
             FieldReason::SeveralMembers => "several members of a oneof",
-            FieldReason::WrongKind => "wrong kind",
+            FieldReason::WrongKind => "wrong kind of value",
             FieldReason::OutOfRange => "out of range",
             FieldReason::NotUtf8 => "not UTF-8",
             FieldReason::OutOfBounds => "out of bounds",

@@ -392,16 +392,14 @@ PYTHON_TYPES = {
 
 PYTHON_NAMED = '''\
 class NamedCall(NamedTuple):
-    """A call that is made by its name: its function, its name in this package, what it takes of its caller, what its
-    code has to be that of, how many numbers it is given, as bytes, and whether it changes them, how many numbers it
-    writes, how many bytes each has of what it writes and counts, a byte or an entry of a table, or 0, the room for
-    these that is tried first, which is a multiple of the bytes that it reads, and more, and how many bytes an entry has
-    of the table that it reads, or 0."""
+    """A call that is made by its name: its function, its name in this package, what it takes of its caller, how many
+    numbers it is given, as bytes, and whether it changes them, how many numbers it writes, how many bytes each has of
+    what it writes and counts, a byte or an entry of a table, or 0, the room for these that is tried first, which is a
+    multiple of the bytes that it reads, and more, and how many bytes an entry has of the table that it reads, or 0."""
 
     function: str
     name: str
     takes: Tuple[str, ...]
-    kind: str
     given: int
     changes: bool
     numbers: int
@@ -422,8 +420,8 @@ def python_named(call):
     given, numbers = counts(call)
     times, more = compiled.first_room(call)
     takes = python_tuple([quoted(name) for name in compiled.parameters(call)])
-    words = [quoted(call.symbol()), quoted(compiled.name_of(call, "Python")), takes, quoted(call.kind_of_code()), given,
-             str(call.changes), numbers, str(compiled.unit(call)), str(times), str(more), str(compiled.entry(call))]
+    words = [quoted(call.symbol()), quoted(compiled.name_of(call, "Python")), takes, given, str(call.changes), numbers,
+             str(compiled.unit(call)), str(times), str(more), str(compiled.entry(call))]
     line = f"    NamedCall({', '.join(words)}),\n"
     if len(line) > WIDTH + 1:
         line = "    NamedCall(\n" + "".join(f"        {word},\n" for word in words) + "    ),\n"
@@ -514,12 +512,11 @@ def shapes(call):
 # Ruby.
 
 RUBY_NAMED = '''
-  # A call that is made by its name: its function, its name in this gem, what it takes of its caller, what its code has
-  # to be that of, how many numbers it is given, as a String, and whether it changes them, how many numbers it writes,
-  # how many bytes each has of what it writes and counts, a byte or an entry of a table, or 0, the room for these that
-  # is tried first, which is a multiple of the bytes that it reads, and more, and how many bytes an entry has of the
-  # table that it reads, or 0.
-  NamedCall = Struct.new(:function, :name, :takes, :kind, :given, :changes, :numbers, :unit, :times, :more, :entry)
+  # A call that is made by its name: its function, its name in this gem, what it takes of its caller, how many numbers
+  # it is given, as a String, and whether it changes them, how many numbers it writes, how many bytes each has of what
+  # it writes and counts, a byte or an entry of a table, or 0, the room for these that is tried first, which is a
+  # multiple of the bytes that it reads, and more, and how many bytes an entry has of the table that it reads, or 0.
+  NamedCall = Struct.new(:function, :name, :takes, :given, :changes, :numbers, :unit, :times, :more, :entry)
 
   # In the order in which the compiled module has them.
   NAMED_CALLS = [
@@ -531,8 +528,8 @@ def ruby_named(call):
     given, numbers = counts(call)
     times, more = compiled.first_room(call)
     words = [f":{call.symbol()}", quoted(compiled.name_of(call, "Ruby")), f"%i[{' '.join(compiled.parameters(call))}]",
-             quoted(call.kind_of_code()), given, str(call.changes).lower(), numbers, str(compiled.unit(call)),
-             str(times), str(more), str(compiled.entry(call))]
+             given, str(call.changes).lower(), numbers, str(compiled.unit(call)), str(times), str(more),
+             str(compiled.entry(call))]
     return filled(f"NamedCall.new({', '.join(words)})", "    ", "      ")
 
 

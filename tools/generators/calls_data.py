@@ -54,11 +54,6 @@ class Call:
         """The errors, in the order in which they are looked for; that of memory is where it may come first."""
         return [error.partition(" ")[0] for error in self.errors]
 
-    def kind_of_code(self):
-        """What its code has to be that of, as "a command", which its errors say; of any type if they do not."""
-        found = re.search(r"that of no ((?:named )?[a-z]+)", " ".join(self.errors))
-        return f"a {found[1]}" if found else "a type"
-
     def name_in(self, language):
         """The name of its function in a language."""
         if language in self.names:

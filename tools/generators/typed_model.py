@@ -24,6 +24,7 @@ KINDS = {
 TEXTS = {
     "SEVERAL_MEMBERS": "several members of a oneof",
     "NOT_UTF8": "not UTF-8",
+    "WRONG_KIND": "wrong kind of value",
 }
 
 

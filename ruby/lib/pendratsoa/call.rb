@@ -4,43 +4,34 @@ module Pendratsoa
   # One call by its name in this gem, with its arguments by their names. A method that takes the name of an argument
   # checks it, and returns what the library takes in its place.
   class Call
+    IS_TOO_LONG = "is too long: more than 4,294,967,295 bytes"
+
     # What is wrong with a payload, or with the call.
     TEXTS = {
-      Malformed => "is not well-formed",
+      Malformed => "is malformed",
       NoId => "has no id",
       NoResult => "has an id, and no result",
-      NotCanonical => "is well-formed, and not canonical",
-      OutOfMemory => "an allocation failed",
-      TooLong => "the result would have more than 4,294,967,295 bytes"
+      NoRoom => "not enough room",
+      NotCanonical => "is not canonical",
+      OutOfMemory => "out of memory",
+      TooLong => "payload #{IS_TOO_LONG}",
+      Unknown => "unknown, or not of the kind that the call is for"
     }.freeze
 
-    # What each argument is that may be unknown, and which numbers are known.
+    # What each argument is that may be unknown, and which values are known.
     KNOWN = {
       version: ["protocol version", " (#{FIRST_VERSION} to #{LAST_VERSION})"],
       schema: ["schema", " (0 to #{SCHEMA_NAMES.length - 1})"],
-      name: ["type name", ""]
-    }.freeze
-
-    # Why a JSON text is rejected.
-    REASONS = {
-      not_json: "not JSON",
-      unknown_member: "unknown member",
-      repeated_member: "repeated member",
-      several_members: "several members of a oneof",
-      wrong_kind: "wrong kind of value",
-      out_of_range: "out of range",
-      not_base64: "not base64",
-      too_deep: "too deep"
+      name: ["type", ""],
+      code: ["code", ", or not of the kind that the call is for"]
     }.freeze
 
     # What checks each argument that is no String.
     CHECKS = { version: :version, code: :code, schema: :schema, payload_length: :length, index: :length,
                direction: :length, ignore_payloads: :flag }.freeze
 
-    # The code has to be that of this kind, as "a command".
-    def initialize(name, kind = "a type", **arguments)
+    def initialize(name, **arguments)
       @name = name
-      @kind = kind
       @arguments = arguments
     end
 
@@ -78,11 +69,12 @@ module Pendratsoa
     # The length of a payload in bytes.
     def length(argument)
       number = integer(argument)
-      text = "#{argument} #{Shown.value(number)}"
-      raise ArgumentError, "#{@name}: #{text} is negative" if number.negative?
-      raise error(TooLong, "#{text} is more than 4,294,967,295", argument) if number >= 1 << 32
+      shown = Shown.value(number)
+      raise ArgumentError, "#{@name}: #{argument} #{shown} is negative" if number.negative?
+      return number if number < 1 << 32
 
-      number
+      text = argument == :payload_length ? "payload of #{shown} bytes" : "#{argument} #{shown}"
+      raise error(TooLong, "#{text} #{IS_TOO_LONG}", argument)
     end
 
     # Whether something is so, as a number.
@@ -121,10 +113,11 @@ module Pendratsoa
     # The error of a rejected JSON text: the reason, the offset, and the path to the rejected value.
     def not_taken(reason, offset, path)
       size = Shown.byte_count(@arguments.fetch(:json).bytesize)
-      where = reason == :not_json ? " at byte #{offset}" : ""
-      text = "#{"#{path}: " unless path.empty?}#{REASONS.fetch(reason)}#{where}"
-      offset = nil unless reason == :not_json
-      error(JsonError, "json of #{size}: #{text}", :json, reason: reason, offset: offset, path: path)
+      where = "#{Shown.escaped(path)}: " unless path.empty?
+      at = " at byte #{offset}" if reason == :not_json
+      offset = nil unless at
+      text = "JSON of #{size}: #{where}#{Shown.reason(reason)}#{at}"
+      error(JsonError, text, :json, reason: reason, offset: offset, path: path)
     end
 
     # The error of a message that is longer than the limit of a stream.
@@ -137,13 +130,13 @@ module Pendratsoa
 
     # Raises the error of a number in place of an item: a negative one, or that of a kind of items that is not known.
     def no_item(number)
-      kind(ITEM_KINDS, number, "an item") unless number.negative?
+      kind(ITEM_KINDS, number, "item") unless number.negative?
       raise refused(number)
     end
 
     # The kind of a number among these. A later library may have further ones.
     def kind(kinds, number, what)
-      raise unexpected("#{what} of the kind #{number}") unless number < kinds.length
+      raise unexpected("the kind of #{what} #{number}") unless number < kinds.length
 
       kinds[number]
     end
@@ -154,7 +147,7 @@ module Pendratsoa
       kind = name && Pendratsoa.const_get(name)
       argument = arguments&.find { |candidate| @arguments.key?(candidate) }
       return unknown(argument) if kind == Unknown && argument
-      return unexpected(number) unless TEXTS.key?(kind)
+      return unexpected("the error #{number}") unless kind
       return error(kind, TEXTS.fetch(kind)) unless argument
 
       what = argument == :payload ? argument : "#{argument} payload"
@@ -165,11 +158,12 @@ module Pendratsoa
     # The error that there is no such argument.
     def unknown(argument)
       value = @arguments.fetch(argument)
-      return error(Unknown, "code #{Shown.value(value)} is not that of #{@kind}", argument) if argument == :code
-
       name, known = KNOWN.fetch(argument)
-      more = value.is_a?(String) ? meant(argument, value) : known
-      error(Unknown, "unknown #{name} #{Shown.value(value)}#{more}", argument)
+      shown = case value
+              when String then "#{Shown.quoted(value)}#{meant(argument, value)}"
+              else "#{argument == :code ? Shown.code(value) : Shown.value(value)}#{known}"
+              end
+      error(Unknown, "unknown #{name} #{shown}", argument)
     end
 
     # An error of this call. Its text begins with the name of the call if it is about one of the arguments.
@@ -179,17 +173,18 @@ module Pendratsoa
       kind.new("#{@name}: #{text}", call: @name, argument: argument, value: @arguments.fetch(argument), **details)
     end
 
+    # The error that a later library may return something new.
+    def unexpected(what)
+      error(Error, "the library returned #{what}, which this package does not know")
+    end
+
     private
 
     # The question whether another name was meant: that of a type's record in place of the type's, or the reverse.
     def meant(argument, name)
       of_schema = argument == :schema
       other = of_schema ? "#{name}Message" : name.b.partition("Message").first
-      "; did you mean #{other.inspect}?" if other != name && SCHEMA_NAMES.include?(of_schema ? other : name)
-    end
-
-    def unexpected(what)
-      error(Error, "the library returned #{what}, which this gem does not know")
+      "; did you mean #{Shown.quoted(other)}?" if other != name && SCHEMA_NAMES.include?(of_schema ? other : name)
     end
 
     def integer(argument)

@@ -151,46 +151,40 @@ module Pendratsoa
     journal_numbering_dump: %i[u32 slice slice slice slice]
   }.freeze
 
-  # A call that is made by its name: its function, its name in this gem, what it takes of its caller, what its code has
-  # to be that of, how many numbers it is given, as a String, and whether it changes them, how many numbers it writes,
-  # how many bytes each has of what it writes and counts, a byte or an entry of a table, or 0, the room for these that
-  # is tried first, which is a multiple of the bytes that it reads, and more, and how many bytes an entry has of the
-  # table that it reads, or 0.
-  NamedCall = Struct.new(:function, :name, :takes, :kind, :given, :changes, :numbers, :unit, :times, :more, :entry)
+  # A call that is made by its name: its function, its name in this gem, what it takes of its caller, how many numbers
+  # it is given, as a String, and whether it changes them, how many numbers it writes, how many bytes each has of what
+  # it writes and counts, a byte or an entry of a table, or 0, the room for these that is tried first, which is a
+  # multiple of the bytes that it reads, and more, and how many bytes an entry has of the table that it reads, or 0.
+  NamedCall = Struct.new(:function, :name, :takes, :given, :changes, :numbers, :unit, :times, :more, :entry)
 
   # In the order in which the compiled module has them.
   NAMED_CALLS = [
-    NamedCall.new(:journal_library_version, "library_version", %i[], "a type", 0, false, 0, 1, 0, 16, 0),
-    NamedCall.new(:journal_schema, "schema", %i[version code], "a named type", 0, false, 0, 0, 0, 0, 0),
-    NamedCall.new(:journal_type_name, "type_name", %i[code], "a type", 0, false, 0, 1, 0, 64, 0),
-    NamedCall.new(:journal_type_code, "type_code", %i[name], "a type", 0, false, 0, 0, 0, 0, 0),
-    NamedCall.new(:journal_header, "header", %i[version code payload_length], "a type", 0, false, 0, 1, 0, 8, 0),
-    NamedCall.new(:journal_frame, "frame", %i[version code payload], "a named type", 0, false, 0, 1, 1, 32, 0),
-    NamedCall.new(:journal_is_well_formed, "well_formed?", %i[schema payload], "a type", 0, false, 0, 0, 0, 0, 0),
-    NamedCall.new(:journal_canonical, "canonical", %i[schema payload], "a type", 0, false, 0, 1, 1, 16, 0),
-    NamedCall.new(:journal_merge, "merge", %i[schema first second], "a type", 0, false, 0, 1, 1, 16, 0),
-    NamedCall.new(:journal_json, "to_json", %i[schema payload], "a type", 0, false, 0, 1, 2, 128, 0),
-    NamedCall.new(:journal_payload_of_json, "from_json", %i[schema json], "a type", 0, false, 2, 1, 1, 0, 0),
-    NamedCall.new(:journal_notification, "notification", %i[code payload], "a notification", 0, false, 4, 1, 1, 16, 0),
-    NamedCall.new(:journal_header_eq, "header_eq?", %i[code first second ignore_payloads], "a command", 0, false, 0, 0,
-      0, 0, 0),
-    NamedCall.new(:journal_difference, "difference", %i[code first second], "a command", 0, false, 0, 1, 0, 256, 0),
-    NamedCall.new(:journal_changed_field, "changed_field", %i[code index first second], "a command", 0, false, 3, 1, 0,
-      256, 0),
-    NamedCall.new(:journal_verdict, "compare_journals", %i[version recorded replayed ignore_payloads], "a type", 0,
-      false, 2, 1, 0, 1024, 0),
-    NamedCall.new(:journal_replay_check, "replay_check", %i[code recorded replayed replay], "a type", 6, true, 6, 0, 0,
-      0, 0),
-    NamedCall.new(:journal_replay_text, "replay_text", %i[code recorded replayed replay], "a type", 6, false, 0, 1, 0,
-      1024, 0),
-    NamedCall.new(:journal_replay_expected, "replay_expected", %i[recorded replay], "a type", 6, false, 3, 0, 0, 0, 0),
-    NamedCall.new(:journal_replay_finish, "replay_finish", %i[recorded replay], "a type", 6, false, 6, 0, 0, 0, 0),
-    NamedCall.new(:journal_numbering, "numbering", %i[direction set renames], "a type", 0, false, 0, 40, 0, 256, 0),
-    NamedCall.new(:journal_numbering_text, "Numbering", %i[set renames], "a type", 0, false, 1, 1, 4, 4096, 0),
-    NamedCall.new(:journal_renumber, "renumber", %i[schema table payload], "a type", 0, false, 0, 1, 2, 16, 40),
-    NamedCall.new(:journal_renumber_stream, "renumber_stream", %i[version table stream], "a type", 0, false, 0, 1, 2,
-      16, 40),
-    NamedCall.new(:journal_numbering_dump, "dump", %i[version set renames stream], "a type", 0, false, 0, 1, 8, 4096, 0)
+    NamedCall.new(:journal_library_version, "library_version", %i[], 0, false, 0, 1, 0, 16, 0),
+    NamedCall.new(:journal_schema, "schema", %i[version code], 0, false, 0, 0, 0, 0, 0),
+    NamedCall.new(:journal_type_name, "type_name", %i[code], 0, false, 0, 1, 0, 64, 0),
+    NamedCall.new(:journal_type_code, "type_code", %i[name], 0, false, 0, 0, 0, 0, 0),
+    NamedCall.new(:journal_header, "header", %i[version code payload_length], 0, false, 0, 1, 0, 8, 0),
+    NamedCall.new(:journal_frame, "frame", %i[version code payload], 0, false, 0, 1, 1, 32, 0),
+    NamedCall.new(:journal_is_well_formed, "well_formed?", %i[schema payload], 0, false, 0, 0, 0, 0, 0),
+    NamedCall.new(:journal_canonical, "canonical", %i[schema payload], 0, false, 0, 1, 1, 16, 0),
+    NamedCall.new(:journal_merge, "merge", %i[schema first second], 0, false, 0, 1, 1, 16, 0),
+    NamedCall.new(:journal_json, "to_json", %i[schema payload], 0, false, 0, 1, 2, 128, 0),
+    NamedCall.new(:journal_payload_of_json, "from_json", %i[schema json], 0, false, 2, 1, 1, 0, 0),
+    NamedCall.new(:journal_notification, "notification", %i[code payload], 0, false, 4, 1, 1, 16, 0),
+    NamedCall.new(:journal_header_eq, "header_eq?", %i[code first second ignore_payloads], 0, false, 0, 0, 0, 0, 0),
+    NamedCall.new(:journal_difference, "difference", %i[code first second], 0, false, 0, 1, 0, 256, 0),
+    NamedCall.new(:journal_changed_field, "changed_field", %i[code index first second], 0, false, 3, 1, 0, 256, 0),
+    NamedCall.new(:journal_verdict, "compare_journals", %i[version recorded replayed ignore_payloads], 0, false, 2, 1,
+      0, 1024, 0),
+    NamedCall.new(:journal_replay_check, "replay_check", %i[code recorded replayed replay], 6, true, 6, 0, 0, 0, 0),
+    NamedCall.new(:journal_replay_text, "replay_text", %i[code recorded replayed replay], 6, false, 0, 1, 0, 1024, 0),
+    NamedCall.new(:journal_replay_expected, "replay_expected", %i[recorded replay], 6, false, 3, 0, 0, 0, 0),
+    NamedCall.new(:journal_replay_finish, "replay_finish", %i[recorded replay], 6, false, 6, 0, 0, 0, 0),
+    NamedCall.new(:journal_numbering, "numbering", %i[direction set renames], 0, false, 0, 40, 0, 256, 0),
+    NamedCall.new(:journal_numbering_text, "Numbering", %i[set renames], 0, false, 1, 1, 4, 4096, 0),
+    NamedCall.new(:journal_renumber, "renumber", %i[schema table payload], 0, false, 0, 1, 2, 16, 40),
+    NamedCall.new(:journal_renumber_stream, "renumber_stream", %i[version table stream], 0, false, 0, 1, 2, 16, 40),
+    NamedCall.new(:journal_numbering_dump, "dump", %i[version set renames stream], 0, false, 0, 1, 8, 4096, 0)
   ].freeze
 
   # The class of each error, and the arguments one of which it is about.

@@ -19,7 +19,7 @@ module Pendratsoa
     # The frame at a version of a payload of such a schema. Unknown if the version has another.
     def self.frame(call, version, code, schema, payload)
       if Pendratsoa.schema(version, code) != schema
-        text = "#{call}: there is no #{SCHEMA_NAMES[schema]} at version #{version}"
+        text = "#{call}: protocol version #{version} has no #{SCHEMA_NAMES[schema]}"
         raise Unknown.new(text, call: call, argument: :version, value: version)
       end
 

@@ -88,7 +88,7 @@ module Pendratsoa
 
     # The error of a field, by the path to it and the reason.
     def self.of(path, reason)
-      new("encode: #{path}: #{reason.to_s.tr("_", " ")}", call: "encode", reason: reason, path: path)
+      new("encode: field #{path}: #{Shown.reason(reason)}", call: "encode", reason: reason, path: path)
     end
   end
 

@@ -107,7 +107,7 @@ module Pendratsoa
       end
 
       def unknown(record, number)
-        Error.new("the library returned the field #{number} of #{record}, which this gem does not know", call: "decode")
+        Call.new("decode").unexpected("the field #{number} of #{record.name.split("::").last}")
       end
     end
 
@@ -133,7 +133,7 @@ module Pendratsoa
           parameters = @record::SCHEMA, *table, @bytes, @bytes.bytesize, room, WRITING_NUMBERS
           found = call.written(:journal_payload_of_fields, parameters, 256 + @bytes.bytesize)
         end
-        reason = call.kind([nil, *FIELD_REASONS], kind, "a table of fields")
+        reason = call.kind([nil, *FIELD_REASONS], kind, "table")
         return found unless reason
 
         raise FieldError.of(Fields.path(@record, @numbers[0, NUMBERS * (index + 1)]), reason)

@@ -112,7 +112,7 @@ module Pendratsoa
       return found if kind.zero?
 
       call = Call.new("from_json", schema: schema, json: json)
-      reason = call.kind([nil, *JSON_REASONS], kind, "a JSON text")
+      reason = call.kind([nil, *JSON_REASONS], kind, "JSON text")
       raise call.not_taken(reason, offset, found.force_encoding(Encoding::UTF_8).freeze)
     end
 
@@ -123,8 +123,8 @@ module Pendratsoa
       found, id_kind, number, name_length, result_kind =
         Named.call(Named::NOTIFICATION, "notification", code, payload)
       call = Call.new("notification", code: code, payload: payload)
-      id_kind = call.kind(ID_KINDS, id_kind, "an id")
-      result_kind = call.kind(RESULT_KINDS, result_kind, "a result")
+      id_kind = call.kind(ID_KINDS, id_kind, "id")
+      result_kind = call.kind(RESULT_KINDS, result_kind, "result")
       name = found.byteslice(0, name_length).force_encoding(Encoding::UTF_8)
       result = found.byteslice(name_length..)
       result.force_encoding(Encoding::UTF_8) if result_kind == :invocation_id
@@ -155,7 +155,7 @@ module Pendratsoa
         Named.call(Named::VERDICT, "compare_journals", version, recorded, replayed, ignore_payloads)
       call = Call.new("compare_journals", version: version, recorded: recorded, replayed: replayed)
       text.force_encoding(Encoding::UTF_8).freeze
-      Verdict.new(call.kind(VERDICT_KINDS, kind, "a verdict"), index, text)
+      Verdict.new(call.kind(VERDICT_KINDS, kind, "verdict"), index, text)
     end
   end
 end

@@ -24,7 +24,8 @@ module Pendratsoa
     def record(record)
       return if record.is_a?(Class) && record < MessageRecord
 
-      raise TypeError, "record: record must be the class of a message's record, not #{record.inspect}"
+      what = record.is_a?(Module) ? record : "an object of #{record.class}"
+      raise TypeError, "record: record must be the class of a message's record, not #{what}"
     end
 
     # What `case .. in` takes: its members, and `word` and `offset` if the pattern names them.
@@ -259,8 +260,7 @@ module Pendratsoa
     # The class of its record; a custom entry has none. Unknown if there is no such version or type.
     def class_of_record
       number = Pendratsoa.schema(version, code)
-      RECORDS[number] ||
-        raise(Error.new("the schema #{number} is of no record that this gem knows", call: "message"))
+      RECORDS[number] || raise(Call.new("message").unexpected("the schema #{number}"))
     rescue Unknown
       # what has a header and no schema is a custom entry; of anything else `schema` raises the error
       reading("message") { schema } unless custom_entry?

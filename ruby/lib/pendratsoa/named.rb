@@ -52,7 +52,7 @@ module Pendratsoa
     # A call with its arguments by their names.
     def self.request(place, name, given)
       row = NAMED_CALLS[place]
-      Call.new(name, row.kind, **row.takes.zip(given).to_h)
+      Call.new(name, **row.takes.zip(given).to_h)
     end
     private_class_method :request
 

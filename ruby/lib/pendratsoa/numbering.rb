@@ -83,7 +83,7 @@ module Pendratsoa
       @given = given.freeze
       text, kind = Named.call(Named::NUMBERING_TEXT, "Numbering", *given)
       @text = text.force_encoding(Encoding::UTF_8).scrub.freeze
-      reason = call.kind(LIST_KINDS, kind, "a numbering")
+      reason = call.kind(LIST_KINDS, kind, "numbering")
       raise no_numbering(call, reason, @text) if NUMBERING_REASONS.include?(reason)
 
       @reading, @writing = %i[reading writing].map do |direction|
@@ -115,13 +115,14 @@ module Pendratsoa
       raise TypeError, "Numbering: a name in renames must be a String, not #{name.class}" unless text.is_a?(String)
       return text.b unless text.b.match?(/[=\n]/)
 
-      raise no_numbering(call, :no_rename, "#{Shown.value(text)} is not the name of a message")
+      raise no_numbering(call, :no_rename, "#{Shown.quoted(text)} is not the name of a message")
     end
 
     # The error that no numbering comes of a set and renames: which of them has a fault, and the fault.
     def no_numbering(call, reason, text)
       wrong = WRONG.fetch(reason)
-      call.error(NumberingError, "#{wrong}: #{text}", wrong, reason: reason, text: text)
+      said = "#{wrong.name.tr("_", " ")}: #{Shown.escaped(text)}"
+      call.error(NumberingError, said, wrong, reason: reason, text: text)
     end
 
     def renumbered(name, table, schema, payload)

@@ -147,7 +147,8 @@ module Pendratsoa
       record = self.class
       values = record.defaults.merge(fields).values
       if values.length > record.members.length
-        raise ArgumentError, "#{record} has no field #{(fields.keys - record.members).join(", ")}"
+        unknown = (fields.keys - record.members).map { |name| Shown.escaped(name.to_s) }
+        raise ArgumentError, "#{record} has no field #{unknown.join(", ")}"
       end
 
       record.places_of_bytes.each do |place|

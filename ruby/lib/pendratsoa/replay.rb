@@ -128,7 +128,7 @@ module Pendratsoa
     # The mismatch of these numbers, of the item of this code and payload.
     def mismatch(call, code, payload, numbers)
       kind, index, replayed_offset, recorded_offset, _, size = numbers
-      kind = Call.new(call).kind(VERDICT_KINDS, kind, "a verdict")
+      kind = Call.new(call).kind(VERDICT_KINDS, kind, "verdict")
       text = %i[type_mismatch header_mismatch].include?(kind) ? text_of(call, code, payload) : ""
       recorded = @recorded.byteslice(recorded_offset + HEADER, [size - HEADER, 0].max)
       fields = kind == :header_mismatch ? changed_fields(call, code, recorded, payload) : []
