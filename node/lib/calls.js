@@ -14,7 +14,7 @@ import {
   VERDICT_KINDS,
   VERDICT_NUMBERS,
 } from './declared.js';
-import { Unknown, notKnown, notTaken, refusal, wrongKind } from './errors.js';
+import { Unknown, codeText, notKnown, notTaken, refusal, wrongKind } from './errors.js';
 import { optionsOf } from './options.js';
 import { Scratch, copied, copiedFrom } from './pool.js';
 import { schemaNumber } from './schemas.js';
@@ -134,7 +134,7 @@ export function typeCode(name) {
 
 /** The name of a type, or its code where a message was made with one that no type has. */
 export function nameOf(code) {
-  return nameIfAny(code) ?? `code 0x${code.toString(16)}`;
+  return nameIfAny(code) ?? `code ${codeText(code)}`;
 }
 
 /** The name of a type, or undefined of a code that no type has. */

@@ -156,7 +156,7 @@ export class Trapped extends JournalError {
   }
 }
 
-/** A source ended within an item. */
+/** A stream ended within an item. */
 export class Incomplete extends JournalError {
   static {
     identify(this, 'JOURNAL_INCOMPLETE');
@@ -199,44 +199,61 @@ const REASONS = {
   tooDeep: 'too deep',
 };
 
-// The kinds of errors by their names, with what is wrong.
+const NOT_MEANT = ', or not of the kind that the call is for';
+
+// The kinds of errors by their names, with what is wrong with a payload or a call.
 const KINDS = {
-  Malformed: [Malformed, 'not well-formed for its schema'],
-  OutOfMemory: [OutOfMemory, 'an allocation failed'],
-  NoRoom: [NoRoom, 'no room for the numbers'],
-  TooLong: [TooLong, 'more than 4,294,967,295 bytes'],
-  Unknown: [Unknown, 'unknown, or not of the kind that the call is for'],
-  NoId: [NoId, 'the notification has no id'],
-  NoResult: [NoResult, 'the notification has an id and no result'],
-  NotCanonical: [NotCanonical, 'well-formed for its schema, and not canonical'],
+  Malformed: [Malformed, 'is malformed'],
+  OutOfMemory: [OutOfMemory, 'out of memory'],
+  NoRoom: [NoRoom, 'not enough room'],
+  TooLong: [TooLong, 'is too long: more than 4,294,967,295 bytes'],
+  Unknown: [Unknown, `unknown${NOT_MEANT}`],
+  NoId: [NoId, 'has no id'],
+  NoResult: [NoResult, 'has an id, and no result'],
+  NotCanonical: [NotCanonical, 'is not canonical'],
 };
+
+// The kinds of errors that are not about a payload.
+const OF_CALL = ['OutOfMemory', 'NoRoom', 'Unknown'];
 
 // What is too long, or becomes so: the library does not say which argument that is of.
 const LONG = ['payloadLength', 'maxMessageSize', 'json', 'payload', 'first', 'stream'];
 
-// The first and the last code that custom entries may have, and named types among them.
-const FIRST_CUSTOM = 0x0400;
-const LAST_CODE = 0xffff;
+// How a text has what is too long, by the argument that says its length, and a payload by the argument that it is.
+const LENGTHS = {
+  payloadLength: (length) => `payload of ${length} bytes`,
+  maxMessageSize: (size) => `maxMessageSize ${size}`,
+};
+const PAYLOADS = { payload: 'payload', first: 'first payload', second: 'second payload' };
 
 // What is said of each argument that can be unknown.
 const UNKNOWN = {
   version: (value) => `protocol version ${shown(value)} (${FIRST_VERSION} to ${LAST_VERSION})`,
   schema: (value) => `schema ${shown(value)}${typeof value === 'string' ? recordMeant(value) : NUMBERS}`,
-  code: (value, call) => `code ${codeText(value)}${isCustomFrame(value, call) ? NO_FRAME : NOT_MEANT}`,
-  name: (value) => `name ${shown(value)}${typeMeant(value)}`,
+  code: (value) => `code ${codeText(value)}${NOT_MEANT}`,
+  name: (value) => `type ${shown(value)}${typeMeant(value)}`,
 };
 const NUMBERS = ` (0 to ${SCHEMA_NAMES.length - 1})`;
-const NOT_MEANT = ', or not of the kind that the call is for';
-const NO_FRAME = ': a custom entry has no frame of its own, and `bytes` of its message has it as received';
+
+// What ends a line, a terminal takes as a command, or turns the text after it around; and what is in no UTF-8.
+const CONTROLS = /[\u0000-\u001f\u007f-\u009f\u2028-\u202e\u2066-\u2069]|\p{Surrogate}/gu;
+
+// How many units of a name are shown.
+const MOST_SHOWN = 64;
+
+/** A text that came from outside, as messages have it: on one line, and with no command for a terminal. */
+function escaped(text) {
+  return text.replace(CONTROLS, (control) => `\\u${control.charCodeAt(0).toString(16).padStart(4, '0')}`);
+}
+
+/** A name that came from outside, in quotes, of a long one its beginning. */
+export function quoted(name) {
+  return `"${escaped(name.slice(0, MOST_SHOWN))}"${name.length > MOST_SHOWN ? '..' : ''}`;
+}
 
 /** Whether a call is for a frame, and takes the version of that. */
 function isFrame(call) {
   return call === 'frame' || call === 'frameInto';
-}
-
-/** Whether a call is for a frame of a custom entry, whose code is one that no named type has. */
-function isCustomFrame(code, call) {
-  return isFrame(call) && Number.isInteger(code) && code >= FIRST_CUSTOM && code <= LAST_CODE;
 }
 
 /** The question whether a type was meant by the name of its record; nothing if it is of none. */
@@ -252,7 +269,7 @@ export function recordMeant(name) {
 }
 
 function didYouMean(name) {
-  return `; did you mean ${shown(name)}?`;
+  return `; did you mean ${quoted(name)}?`;
 }
 
 /** The error that a negative number is, of a call: its name and its arguments, by their names. */
@@ -261,38 +278,47 @@ export function refusal(number, given) {
     return notKnown(given.call, 'error', number);
   }
   const [kind, names] = ERRORS.get(number);
-  const [ErrorClass, reason] = KINDS[kind];
+  const [ErrorClass] = KINDS[kind];
   const { call } = given;
   const argument = (kind === 'TooLong' ? LONG : names).find((name) => name in given);
-  if (argument === undefined) {
-    return new ErrorClass(`${call}: ${reason}`, { call });
+  const message = `${call}: ${saidOf(kind, argument, given[argument])}`;
+  return new ErrorClass(message, argument === undefined ? { call } : { call, argument, value: given[argument] });
+}
+
+/** What a kind of errors says of an argument with a value, or of none. */
+function saidOf(kind, argument, value) {
+  const [, reason] = KINDS[kind];
+  if (kind === 'Unknown' && argument !== undefined) {
+    return `unknown ${UNKNOWN[argument](value)}`;
   }
-  const value = given[argument];
-  const isUnknown = kind === 'Unknown';
-  const size = argument === 'json' ? sizeOf(value) : shown(value);
-  const said = isUnknown ? `unknown ${UNKNOWN[argument](value, call)}` : `${argument} ${size}: ${reason}`;
-  return new ErrorClass(`${call}: ${said}`, { call, argument, value });
+  if (OF_CALL.includes(kind)) {
+    return reason;
+  }
+  if (kind === 'TooLong') {
+    return `${LENGTHS[argument]?.(value) ?? 'payload'} ${reason}`;
+  }
+  return argument === undefined ? `payload ${reason}` : `${PAYLOADS[argument]} ${shown(value)} ${reason}`;
 }
 
 /** The error that the library returned the number of an error, or of a kind, which only a later one has. */
 export function notKnown(call, what, number) {
-  const message = `the library returned the ${what} ${number}, which this module does not know`;
+  const message = `the library returned the ${what} ${number}, which this package does not know`;
   return new JournalError(message, { call });
 }
 
 /** The error of a rejected JSON text: the reason, the offset, and the path to the rejected value. */
 export function notTaken({ call, json }, { reason, offset, path }) {
   const where = offset === undefined ? '' : ` at byte ${offset}`;
-  const why = `${path === '' ? '' : `${path}: `}${REASONS[reason]}${where}`;
+  const why = `${path === '' ? '' : `${escaped(path)}: `}${REASONS[reason]}${where}`;
   const details = { call, argument: 'json', value: json, reason, offset, path };
-  return new JsonError(`${call}: json ${sizeOf(json)}: ${why}`, details);
+  return new JsonError(`${call}: JSON ${sizeOf(json)}: ${why}`, details);
 }
 
 /** The error that no numbering comes of a descriptor set: the reason, and the fault. */
 export function noNumbering({ call, set }, { reason, text }) {
   const details = reason === 'noRename' ? { argument: 'renames' } : { argument: 'set', value: set };
-  const said = reason === 'noRename' ? 'renames' : `set ${shown(set)}`;
-  return new NumberingError(`${call}: ${said}: ${text}`, { call, ...details, reason, text });
+  const said = reason === 'noRename' ? 'renames' : 'descriptor set';
+  return new NumberingError(`${call}: ${said}: ${escaped(text)}`, { call, ...details, reason, text });
 }
 
 /** The error of a message that is longer than the limit of its stream, by what its header says, and by its offset. */
@@ -312,7 +338,7 @@ export function messageTooLong({ call, maxMessageSize: limit }, { name, typeCode
 
 /** The error that a field cannot be encoded: what leads to it, and why. */
 export function fieldError(path, reason) {
-  return new FieldError(`${path}: ${REASONS[reason]}`, { call: 'payload', reason, path });
+  return new FieldError(`field ${path}: ${REASONS[reason]}`, { call: 'payload', reason, path });
 }
 
 /**
@@ -332,22 +358,21 @@ export function ofMessage(error, typeCode, name, offset) {
   return error;
 }
 
-/** The error that a source ended within an item: its name or "an item", its type, its offset, and what came of it. */
+/** The error that a stream ended within an item: its name or "an item", its type, its offset, and what came of it. */
 export function incomplete(call, { name, typeCode, offset, trailing }) {
-  const what = call === 'finish' ? 'stream' : 'source';
   const came = byteCount(trailing.length);
-  const message = `the ${what} ended within ${name} at offset ${offset}, after ${came} of it`;
+  const message = `the stream ended within ${name} at offset ${offset}, after ${came} of it`;
   return new Incomplete(message, { call, typeCode, offset, trailing });
 }
 
 /** The error that an argument is of another kind than it has to be. */
 export function wrongKind(argument, value, wanted) {
-  return invalid(`${argument} is ${shown(value)}, and has to be ${wanted}`);
+  return invalid(`${escaped(argument)} is ${shown(value)}, and has to be ${wanted}`);
 }
 
 /** The same of what is in a record. Only its kind is told, since it may be secret. */
 export function wrongField(name, value, wanted) {
-  return invalid(`${name} is ${heldKind(value)}, and has to be ${wanted}`);
+  return invalid(`${escaped(name)} is ${heldKind(value)}, and has to be ${wanted}`);
 }
 
 /** The error that options have a name which is not one of theirs. */
@@ -372,7 +397,7 @@ function shown(value) {
   if (ArrayBuffer.isView(value)) {
     return `of ${byteCount(value.byteLength)}`;
   }
-  return texts.shown(value);
+  return typeof value === 'string' ? quoted(value) : escaped(texts.shown(value));
 }
 
 /** The length of a JSON text within a message, in bytes of its UTF-8: what it holds may be secret. */
@@ -381,7 +406,7 @@ function sizeOf(json) {
 }
 
 /** The code of a type as a text, as 0x0400; what is not a code, as it is. */
-function codeText(code) {
+export function codeText(code) {
   return Number.isInteger(code) && code >= 0 ? `0x${code.toString(16).padStart(4, '0')}` : shown(code);
 }
 

@@ -169,7 +169,7 @@ class Reader {
       const { at } = this;
       const row = record.byNumber[halves[at + NUMBER]];
       if (row === undefined) {
-        throw notKnown(this.call, `field of ${record.name}`, halves[at + NUMBER]);
+        throw notKnown(this.call, 'field', `${halves[at + NUMBER]} of ${record.name}`);
       }
       this.at += HALVES;
       const value = this.value(row, halves, at, level);

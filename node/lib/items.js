@@ -246,7 +246,7 @@ function earlierSchema(version, code) {
 /** The frame of a payload whose schema its type has at earlier versions only; `frame` reads it by the later one. */
 function earlierFrame(call, version, code, earlier, payload) {
   if (checked(addon.schema(version, code), { call, version, code }) !== earlier) {
-    throw new Unknown(`${call}: there is no ${RECORDS[earlier].name} at version ${version}`, { call });
+    throw new Unknown(`${call}: protocol version ${version} has no ${RECORDS[earlier].name}`, { call });
   }
   const found = canonical(earlier, payload);
   return headed(highFor(version, code, found.length), found.length, found);

@@ -3,7 +3,7 @@
 import { addon } from './addon.js';
 import { checked, known, kindOf, text, written } from './calls.js';
 import { LIST_KINDS, LIST_NUMBERS } from './declared.js';
-import { Malformed, noNumbering, wrongKind } from './errors.js';
+import { Malformed, noNumbering, quoted, wrongKind } from './errors.js';
 import { files } from './files.js';
 import { optionsOf } from './options.js';
 import { makeTables, renumbered, renumberedMessage, renumberedStream } from './renumber.js';
@@ -114,7 +114,7 @@ function linesOf(renames) {
     // the library takes a rename per line
     const name = [theirs, ours].find((one) => /[=\n]/.test(one));
     if (name !== undefined) {
-      const fault = `${JSON.stringify(name)} is not the name of a message`;
+      const fault = `${quoted(name)} is not the name of a message`;
       throw noNumbering({ call: 'Numbering' }, { reason: 'noRename', text: fault });
     }
     return `${theirs}=${ours}`;

@@ -6,9 +6,6 @@ const encoder = new TextEncoder();
 // How many bytes become arguments of a call at once.
 const AT_ONCE = 8192;
 
-// How many units of a text are shown within a message.
-const MOST_SHOWN = 64;
-
 export const texts = {
   /** The text that bytes are from one on to an end, as UTF-8. */
   utf8(bytes, begin, end) {
@@ -38,11 +35,9 @@ export const texts = {
     return new Uint8Array(size);
   },
 
-  /** A value within a message, on a line. */
+  /** A value that is not a string within a message, on a line. */
   shown(value) {
     switch (typeof value) {
-      case 'string':
-        return value.length > MOST_SHOWN ? `'${value.slice(0, MOST_SHOWN)}'...` : `'${value}'`;
       case 'bigint':
         return `${value}n`;
       case 'function':

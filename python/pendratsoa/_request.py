@@ -30,15 +30,19 @@ SCHEMAS = len(SCHEMA_NAMES)
 
 TOO_LONG = "is too long: more than 4,294,967,295 bytes"
 
-# what is wrong: with a payload, which comes before these words, or with the call
-TEXTS = {
+# what is wrong with a payload, which comes before these words
+OF_PAYLOAD = {
     Malformed: "is malformed",
     NoId: "has no id",
     NoResult: "has an id, and no result",
-    NoRoom: "not enough room",
     NotCanonical: "is not canonical",
+    TooLong: TOO_LONG,
+}
+
+# what is wrong with a call
+OF_CALL = {
+    NoRoom: "not enough room",
     OutOfMemory: "out of memory",
-    TooLong: f"payload {TOO_LONG}",
     Unknown: "unknown, or not of the kind that the call is for",
 }
 
@@ -211,12 +215,14 @@ class Request:
             return self.unexpected(f"the error {number}")
         kind, arguments = ERRORS[number]
         argument = next((name for name in arguments if name in self.arguments), None)
-        if argument is None:
-            return self.error(kind, TEXTS[kind])
-        if kind is Unknown:
+        if kind is Unknown and argument is not None:
             return self._unknown(argument)
+        if kind in OF_CALL:
+            return self.error(kind, OF_CALL[kind])
+        if argument is None:
+            return self.error(kind, f"payload {OF_PAYLOAD[kind]}")
         what = argument if argument == "payload" else f"{argument} payload"
-        return self.error(kind, f"{what} of {byte_count(len(self.data(argument)))} {TEXTS[kind]}", argument)
+        return self.error(kind, f"{what} of {byte_count(len(self.data(argument)))} {OF_PAYLOAD[kind]}", argument)
 
     def error(self, kind: Type[JournalError], text: str, argument: Optional[str] = None) -> JournalError:
         """An error of this call, about one of its arguments or none. Its text does not name the call, which may be one

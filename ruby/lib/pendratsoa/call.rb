@@ -6,15 +6,19 @@ module Pendratsoa
   class Call
     IS_TOO_LONG = "is too long: more than 4,294,967,295 bytes"
 
-    # What is wrong with a payload, or with the call.
-    TEXTS = {
+    # What is wrong with a payload, which comes before these words.
+    OF_PAYLOAD = {
       Malformed => "is malformed",
       NoId => "has no id",
       NoResult => "has an id, and no result",
-      NoRoom => "not enough room",
       NotCanonical => "is not canonical",
+      TooLong => IS_TOO_LONG
+    }.freeze
+
+    # What is wrong with a call.
+    OF_CALL = {
+      NoRoom => "not enough room",
       OutOfMemory => "out of memory",
-      TooLong => "payload #{IS_TOO_LONG}",
       Unknown => "unknown, or not of the kind that the call is for"
     }.freeze
 
@@ -148,11 +152,9 @@ module Pendratsoa
       argument = arguments&.find { |candidate| @arguments.key?(candidate) }
       return unknown(argument) if kind == Unknown && argument
       return unexpected("the error #{number}") unless kind
-      return error(kind, TEXTS.fetch(kind)) unless argument
+      return error(kind, OF_CALL.fetch(kind)) if OF_CALL.key?(kind)
 
-      what = argument == :payload ? argument : "#{argument} payload"
-      size = Shown.byte_count(@arguments.fetch(argument).bytesize)
-      error(kind, "#{what} of #{size} #{TEXTS.fetch(kind)}", argument)
+      error(kind, "#{payload_text(argument)} #{OF_PAYLOAD.fetch(kind)}", argument)
     end
 
     # The error that there is no such argument.
@@ -179,6 +181,14 @@ module Pendratsoa
     end
 
     private
+
+    # A payload as texts have it, by the name of the argument that it is, if that is known.
+    def payload_text(argument)
+      return "payload" unless argument
+
+      size = Shown.byte_count(@arguments.fetch(argument).bytesize)
+      "#{argument unless argument == :payload} payload of #{size}".lstrip
+    end
 
     # The question whether another name was meant: that of a type's record in place of the type's, or the reverse.
     def meant(argument, name)
