@@ -25,7 +25,9 @@ func Difference(code uint16, first, second []byte) (string, error) {
 
 // commandError returns the error of a call that compares two commands, of the code or of one of the two.
 func commandError(call string, result int64, code uint16, first, second []byte) error {
-	given := arguments{code: codeText(code), payload: bytesText("first", first), second: bytesText("second", second)}
+	given := arguments{
+		code: codeText(code), payload: bytesText("first payload", first), second: bytesText("second payload", second),
+	}
 	return given.refusal(call, result)
 }
 

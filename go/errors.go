@@ -5,27 +5,29 @@ import (
 	"fmt"
 	"io"
 	"math"
+	"strings"
+	"unicode"
 )
 
 // The errors that an Error wraps, for errors.Is.
 var (
 	// ErrMalformed: a payload is not well-formed for its schema.
-	ErrMalformed = errors.New("not well-formed for its schema")
+	ErrMalformed = errors.New("malformed payload")
 	// ErrOutOfMemory: an allocation of the library failed. The call can be repeated.
-	ErrOutOfMemory = errors.New("an allocation failed")
+	ErrOutOfMemory = errors.New("out of memory")
 	// ErrNoRoom: a slice for numbers was too short, which this package never passes.
-	ErrNoRoom = errors.New("no room for the numbers")
+	ErrNoRoom = errors.New("not enough room")
 	// ErrTooLong: a payload has, or would have, more than 4,294,967,295 bytes. A MessageTooLongError, which is about the
 	// limit of a decoder, wraps it too.
-	ErrTooLong = errors.New("more than 4,294,967,295 bytes")
+	ErrTooLong = errors.New("too long: more than 4,294,967,295 bytes")
 	// ErrUnknown: a version, a schema, a code or a name does not exist, or is not of the kind that the call is for.
 	ErrUnknown = errors.New("unknown, or not of the kind that the call is for")
 	// ErrNoID: a notification has no id.
-	ErrNoID = errors.New("has no id")
+	ErrNoID = errors.New("notification without an id")
 	// ErrNoResult: a notification has an id and no result.
-	ErrNoResult = errors.New("has no result")
+	ErrNoResult = errors.New("notification without a result")
 	// ErrNotCanonical: a payload is well-formed for its schema, and not canonical.
-	ErrNotCanonical = errors.New("is well-formed, and not canonical")
+	ErrNotCanonical = errors.New("payload is not canonical")
 	// ErrJSON: a JSON text means no value of its schema. A JSONError wraps it.
 	ErrJSON = errors.New("JSON that means no value of its schema")
 	// ErrNegative: a length is negative.
@@ -45,13 +47,28 @@ type Error struct {
 	Err error
 }
 
-// Error returns a text as "pendratsoa: Canonical: payload of 3 bytes: not well-formed for its schema", and of what is
-// unknown as "pendratsoa: Canonical: unknown schema 53 (0 to 52)".
+// Error returns a text as "pendratsoa: Canonical: payload of 3 bytes is malformed", and of what is unknown as
+// "pendratsoa: Canonical: unknown schema 53 (0 to 52)".
 func (e *Error) Error() string {
-	if _, saysWhich := e.Err.(unknownError); saysWhich {
-		return fmt.Sprintf("pendratsoa: %s: %v", e.Call, e.Err)
+	return fmt.Sprintf("pendratsoa: %s: %s", e.Call, e.said())
+}
+
+// said returns what is wrong with the argument.
+func (e *Error) said() string {
+	if _, isWhole := e.Err.(wholeError); isWhole || e.Err == ErrOutOfMemory || e.Err == ErrNoRoom {
+		return e.Err.Error()
 	}
-	return fmt.Sprintf("pendratsoa: %s: %s: %v", e.Call, e.Argument, e.Err)
+	switch e.Err {
+	case ErrMalformed:
+		return e.Argument + " is malformed"
+	case ErrNoID:
+		return e.Argument + " has no id"
+	case ErrNoResult:
+		return e.Argument + " has an id, and no result"
+	case ErrNotCanonical, ErrTooLong, ErrNegative:
+		return e.Argument + " is " + strings.TrimPrefix(e.Err.Error(), "payload is ")
+	}
+	return e.Argument + ": " + e.Err.Error()
 }
 
 // Unwrap returns Err.
@@ -70,14 +87,14 @@ type MessageError struct {
 	Err *Error
 }
 
-// Error returns a text as "pendratsoa: Message.JSON: SetStateCommand at offset 17: payload of 3 bytes: not well-formed
-// for its schema", and of a message that did not come in a stream the same without the offset.
+// Error returns a text as "pendratsoa: Message.JSON: SetStateCommand at offset 17: payload of 3 bytes is malformed", and
+// of a message that did not come in a stream the same without the offset.
 func (e *MessageError) Error() string {
 	where := e.Type
 	if e.Offset >= 0 {
 		where = fmt.Sprintf("%s at offset %d", e.Type, e.Offset)
 	}
-	return fmt.Sprintf("pendratsoa: %s: %s: %s: %v", e.Err.Call, where, e.Err.Argument, e.Err.Err)
+	return fmt.Sprintf("pendratsoa: %s: %s: %s", e.Err.Call, where, e.Err.said())
 }
 
 // Unwrap returns Err.
@@ -113,20 +130,23 @@ func (e *IncompleteError) Unwrap() error {
 	return io.ErrUnexpectedEOF
 }
 
-// An unknownError tells what is unknown. It wraps ErrUnknown.
-type unknownError string
-
-func (said unknownError) Error() string {
-	return string(said)
+// A wholeError has a text that says all, also which argument it is of. It wraps one of the variables.
+type wholeError struct {
+	text string
+	kind error
 }
 
-func (said unknownError) Unwrap() error {
-	return ErrUnknown
+func (e wholeError) Error() string {
+	return e.text
+}
+
+func (e wholeError) Unwrap() error {
+	return e.kind
 }
 
 // unknown returns the error that an argument is unknown, with what a caller can make of it.
 func unknown(call, argument, more string) *Error {
-	return &Error{call, argument, unknownError("unknown " + argument + more)}
+	return &Error{call, argument, wholeError{"unknown " + argument + more, ErrUnknown}}
 }
 
 // What is said of an unknown version, of an unknown schema, and of a code that no type has, or none of the call's kind.
@@ -158,6 +178,9 @@ func (given arguments) refusal(call string, number int64) error {
 		return unknown(call, given.code, ofCode)
 	case malformedSecond:
 		argument = given.second
+	case tooLong:
+		// the library does not say which payload is too long, or becomes so
+		argument = "payload"
 	}
 	for _, other := range []string{given.payload, given.code, given.name, given.version} {
 		if argument == "" {
@@ -192,7 +215,42 @@ func errorOf(number int64) error {
 
 // unexpected returns the error of a number that only a later library returns.
 func unexpected[Number int64 | uint64](what string, number Number) error {
-	return fmt.Errorf("the library returned the %s %d: %w", what, number, ErrUnexpected)
+	return unexpectedText(fmt.Sprintf("the %s %d", what, number))
+}
+
+// unexpectedText returns the error of what only a later library returns.
+func unexpectedText(what string) error {
+	return wholeError{"the library returned " + what + ", which this package does not know", ErrUnexpected}
+}
+
+// mostShown is how many characters of a name an error shows.
+const mostShown = 64
+
+// quoted returns a name that came from outside in quotes, of a long one its beginning.
+func quoted(name string) string {
+	letters := []rune(name)
+	if len(letters) > mostShown {
+		return `"` + escaped(string(letters[:mostShown])) + `"..`
+	}
+	return `"` + escaped(name) + `"`
+}
+
+// escaped returns a text that came from outside as errors have it: on one line, and with no command for a terminal.
+func escaped(text string) string {
+	var out strings.Builder
+	for _, letter := range text {
+		if isControl(letter) {
+			fmt.Fprintf(&out, `\u%04x`, letter)
+		} else {
+			out.WriteRune(letter)
+		}
+	}
+	return out.String()
+}
+
+// isControl returns whether a character ends a line, is a command for a terminal, or turns the text after it around.
+func isControl(letter rune) bool {
+	return unicode.IsControl(letter) || letter >= 0x2028 && letter <= 0x202e || letter >= 0x2066 && letter <= 0x2069
 }
 
 // unsigned returns a version or a schema as the library takes it, or that it is unknown. Only a conversion would cut

@@ -20,9 +20,9 @@ type FieldError struct {
 	Reason string
 }
 
-// Error returns a text as "pendratsoa: headers[2].key: not UTF-8".
+// Error returns a text as "pendratsoa: field headers[2].key: not UTF-8".
 func (e *FieldError) Error() string {
-	return "pendratsoa: " + e.Path + ": " + e.Reason
+	return "pendratsoa: field " + e.Path + ": " + e.Reason
 }
 
 // Unwrap returns ErrField.
@@ -68,7 +68,7 @@ func (m *Message) Record() (Record, error) {
 	}
 	record := newRecord(schema)
 	if record == nil {
-		return nil, &Error{"Message.Record", named("schema", schema), ErrUnexpected}
+		return nil, &Error{"Message.Record", named("schema", schema), unexpected("schema", int64(schema))}
 	}
 	if err := readRecord("Message.Record", record, m.Payload); err != nil {
 		return nil, m.located(err)
@@ -181,8 +181,9 @@ func (t *fieldTable) textsToCome() int {
 }
 
 // unknown returns the error that a later library knows more fields.
-func (t *fieldTable) unknown(record string) error {
-	return &Error{t.call, "field of " + record, ErrUnexpected}
+func (t *fieldTable) unknown(record string, field *tableField) error {
+	what := fmt.Sprintf("field %d of %s", field[fieldNumber], record)
+	return &Error{t.call, what, unexpectedText("the " + what)}
 }
 
 var tables = sync.Pool{New: func() any { return new(fieldTable) }}

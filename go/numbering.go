@@ -43,7 +43,7 @@ type NumberingError struct {
 
 // Error returns the text.
 func (e *NumberingError) Error() string {
-	return e.Text
+	return escaped(e.Text)
 }
 
 // Unwrap returns ErrNumbering.
@@ -80,7 +80,7 @@ func NewNumbering(set []byte, renames map[string]string) (*Numbering, error) {
 		for _, name := range []string{theirs, ours} {
 			// the library takes a rename per line
 			if strings.ContainsAny(name, "=\n") {
-				faults = append(faults, fmt.Sprintf("%q is not the name of a message", name))
+				faults = append(faults, quoted(name)+" is not the name of a message")
 			}
 		}
 	}
@@ -88,7 +88,7 @@ func NewNumbering(set []byte, renames map[string]string) (*Numbering, error) {
 		return nil, &Error{"NewNumbering", "renames", &NumberingError{ReasonNoRename, faults[0]}}
 	}
 	lines := renameLines(renames)
-	setText := bytesText("set", set)
+	const setText = "descriptor set"
 	var list [listNumbers]uint64
 	text, result := written(textRoom, func(out []byte) int64 { return journalNumberingText(set, lines, &list, out) })
 	if result < 0 {

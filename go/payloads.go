@@ -46,7 +46,8 @@ func Merge(schema int, first, second []byte) ([]byte, error) {
 	})
 	if result < 0 {
 		given := arguments{
-			schema: named("schema", schema), payload: bytesText("first", first), second: bytesText("second", second),
+			schema: named("schema", schema), payload: bytesText("first payload", first),
+			second: bytesText("second payload", second),
 		}
 		return nil, given.refusal("Merge", result)
 	}

@@ -41,7 +41,7 @@ func (e *JSONError) Error() string {
 	case e.Offset >= 0:
 		return fmt.Sprintf("%s at byte %d", e.Reason.text(), e.Offset)
 	case e.Path != "":
-		return e.Path + ": " + e.Reason.text()
+		return escaped(e.Path) + ": " + e.Reason.text()
 	}
 	return e.Reason.text()
 }

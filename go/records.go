@@ -51,7 +51,7 @@ func (r *Void) UnmarshalBinary(payload []byte) error {
 func (r *Void) read(table *fieldTable, level uint64) error {
 	*r = Void{}
 	for table.has(level) {
-		return table.unknown("Void")
+		return table.unknown("Void", table.next())
 	}
 	return nil
 }
@@ -94,7 +94,7 @@ func (r *Value) read(table *fieldTable, level uint64) error {
 		case 1:
 			r.Content = table.bytes(field)
 		default:
-			return table.unknown("Value")
+			return table.unknown("Value", field)
 		}
 	}
 	return nil
@@ -153,7 +153,7 @@ func (r *Failure) read(table *fieldTable, level uint64) error {
 				return err
 			}
 		default:
-			return table.unknown("Failure")
+			return table.unknown("Failure", field)
 		}
 	}
 	return nil
@@ -212,7 +212,7 @@ func (r *FailureMetadata) read(table *fieldTable, level uint64) error {
 		case 2:
 			r.Value = table.text(field)
 		default:
-			return table.unknown("FailureMetadata")
+			return table.unknown("FailureMetadata", field)
 		}
 	}
 	return nil
@@ -267,7 +267,7 @@ func (r *HeaderRecord) read(table *fieldTable, level uint64) error {
 		case 2:
 			r.Value = table.text(field)
 		default:
-			return table.unknown("Header")
+			return table.unknown("Header", field)
 		}
 	}
 	return nil
@@ -318,7 +318,7 @@ func (r *StateKeys) read(table *fieldTable, level uint64) error {
 		case 1:
 			r.Keys = append(r.Keys, table.bytes(field))
 		default:
-			return table.unknown("StateKeys")
+			return table.unknown("StateKeys", field)
 		}
 	}
 	return nil
@@ -370,7 +370,7 @@ func (r *StateEntry) read(table *fieldTable, level uint64) error {
 		case 2:
 			r.Value = table.bytes(field)
 		default:
-			return table.unknown("StateEntry")
+			return table.unknown("StateEntry", field)
 		}
 	}
 	return nil
@@ -440,7 +440,7 @@ func (r *Future) read(table *fieldTable, level uint64) error {
 		case 5:
 			r.CombinatorType = CombinatorType(int32(field[fieldValue]))
 		default:
-			return table.unknown("Future")
+			return table.unknown("Future", field)
 		}
 	}
 	return nil
@@ -510,7 +510,7 @@ func (r *WorkflowTarget) read(table *fieldTable, level uint64) error {
 			value := table.text(field)
 			r.Scope = &value
 		default:
-			return table.unknown("WorkflowTarget")
+			return table.unknown("WorkflowTarget", field)
 		}
 	}
 	return nil
@@ -582,7 +582,7 @@ func (r *IdempotentRequestTarget) read(table *fieldTable, level uint64) error {
 			value := table.text(field)
 			r.Scope = &value
 		default:
-			return table.unknown("IdempotentRequestTarget")
+			return table.unknown("IdempotentRequestTarget", field)
 		}
 	}
 	return nil
@@ -711,7 +711,7 @@ func (r *StartMessage) read(table *fieldTable, level uint64) error {
 			value := table.text(field)
 			r.IdempotencyKey = &value
 		default:
-			return table.unknown("StartMessage")
+			return table.unknown("StartMessage", field)
 		}
 	}
 	return nil
@@ -815,7 +815,7 @@ func (r *SuspensionMessage) read(table *fieldTable, level uint64) error {
 				return err
 			}
 		default:
-			return table.unknown("SuspensionMessage")
+			return table.unknown("SuspensionMessage", field)
 		}
 	}
 	return nil
@@ -892,7 +892,7 @@ func (r *SuspensionMessageV6) read(table *fieldTable, level uint64) error {
 		case 3:
 			r.WaitingNamedSignals = append(r.WaitingNamedSignals, table.text(field))
 		default:
-			return table.unknown("SuspensionMessageV6")
+			return table.unknown("SuspensionMessageV6", field)
 		}
 	}
 	return nil
@@ -997,7 +997,7 @@ func (r *ErrorMessage) read(table *fieldTable, level uint64) error {
 		case 9:
 			r.Behavior = ErrorBehavior(int32(field[fieldValue]))
 		default:
-			return table.unknown("ErrorMessage")
+			return table.unknown("ErrorMessage", field)
 		}
 	}
 	return nil
@@ -1077,7 +1077,7 @@ func (r *EndMessage) appendFrame(call string, dst []byte, version int) ([]byte, 
 func (r *EndMessage) read(table *fieldTable, level uint64) error {
 	*r = EndMessage{}
 	for table.has(level) {
-		return table.unknown("EndMessage")
+		return table.unknown("EndMessage", table.next())
 	}
 	return nil
 }
@@ -1160,7 +1160,7 @@ func (r *ProposeRunCompletionMessage) read(table *fieldTable, level uint64) erro
 			}
 			r.Result = value
 		default:
-			return table.unknown("ProposeRunCompletionMessage")
+			return table.unknown("ProposeRunCompletionMessage", field)
 		}
 	}
 	return nil
@@ -1243,7 +1243,7 @@ func (r *AwaitingOnMessage) read(table *fieldTable, level uint64) error {
 		case 2:
 			r.ExecutingSideEffects = field[fieldValue] != 0
 		default:
-			return table.unknown("AwaitingOnMessage")
+			return table.unknown("AwaitingOnMessage", field)
 		}
 	}
 	return nil
@@ -1314,7 +1314,7 @@ func (r *ProposeRunCompletionAckMessage) read(table *fieldTable, level uint64) e
 		case 1:
 			r.CompletionID = uint32(field[fieldValue])
 		default:
-			return table.unknown("ProposeRunCompletionAckMessage")
+			return table.unknown("ProposeRunCompletionAckMessage", field)
 		}
 	}
 	return nil
@@ -1385,7 +1385,7 @@ func (r *GetStateEphemeralCommandMessage) read(table *fieldTable, level uint64) 
 		case 2:
 			r.CompletionID = uint32(field[fieldValue])
 		default:
-			return table.unknown("GetStateEphemeralCommandMessage")
+			return table.unknown("GetStateEphemeralCommandMessage", field)
 		}
 	}
 	return nil
@@ -1477,7 +1477,7 @@ func (r *GetStateEphemeralNotificationMessage) read(table *fieldTable, level uin
 			}
 			r.Result = value
 		default:
-			return table.unknown("GetStateEphemeralNotificationMessage")
+			return table.unknown("GetStateEphemeralNotificationMessage", field)
 		}
 	}
 	return nil
@@ -1570,7 +1570,7 @@ func (r *InputCommandMessage) read(table *fieldTable, level uint64) error {
 				return err
 			}
 		default:
-			return table.unknown("InputCommandMessage")
+			return table.unknown("InputCommandMessage", field)
 		}
 	}
 	return nil
@@ -1667,7 +1667,7 @@ func (r *OutputCommandMessage) read(table *fieldTable, level uint64) error {
 			}
 			r.Result = value
 		default:
-			return table.unknown("OutputCommandMessage")
+			return table.unknown("OutputCommandMessage", field)
 		}
 	}
 	return nil
@@ -1754,7 +1754,7 @@ func (r *GetLazyStateCommandMessage) read(table *fieldTable, level uint64) error
 		case 12:
 			r.Name = table.text(field)
 		default:
-			return table.unknown("GetLazyStateCommandMessage")
+			return table.unknown("GetLazyStateCommandMessage", field)
 		}
 	}
 	return nil
@@ -1838,7 +1838,7 @@ func (r *SetStateCommandMessage) read(table *fieldTable, level uint64) error {
 		case 12:
 			r.Name = table.text(field)
 		default:
-			return table.unknown("SetStateCommandMessage")
+			return table.unknown("SetStateCommandMessage", field)
 		}
 	}
 	return nil
@@ -1916,7 +1916,7 @@ func (r *ClearStateCommandMessage) read(table *fieldTable, level uint64) error {
 		case 12:
 			r.Name = table.text(field)
 		default:
-			return table.unknown("ClearStateCommandMessage")
+			return table.unknown("ClearStateCommandMessage", field)
 		}
 	}
 	return nil
@@ -1986,7 +1986,7 @@ func (r *ClearAllStateCommandMessage) read(table *fieldTable, level uint64) erro
 		case 12:
 			r.Name = table.text(field)
 		default:
-			return table.unknown("ClearAllStateCommandMessage")
+			return table.unknown("ClearAllStateCommandMessage", field)
 		}
 	}
 	return nil
@@ -2057,7 +2057,7 @@ func (r *GetLazyStateKeysCommandMessage) read(table *fieldTable, level uint64) e
 		case 12:
 			r.Name = table.text(field)
 		default:
-			return table.unknown("GetLazyStateKeysCommandMessage")
+			return table.unknown("GetLazyStateKeysCommandMessage", field)
 		}
 	}
 	return nil
@@ -2153,7 +2153,7 @@ func (r *GetEagerStateCommandMessage) read(table *fieldTable, level uint64) erro
 			}
 			r.Result = value
 		default:
-			return table.unknown("GetEagerStateCommandMessage")
+			return table.unknown("GetEagerStateCommandMessage", field)
 		}
 	}
 	return nil
@@ -2242,7 +2242,7 @@ func (r *GetEagerStateKeysCommandMessage) read(table *fieldTable, level uint64) 
 				return err
 			}
 		default:
-			return table.unknown("GetEagerStateKeysCommandMessage")
+			return table.unknown("GetEagerStateKeysCommandMessage", field)
 		}
 	}
 	return nil
@@ -2321,7 +2321,7 @@ func (r *GetPromiseCommandMessage) read(table *fieldTable, level uint64) error {
 		case 12:
 			r.Name = table.text(field)
 		default:
-			return table.unknown("GetPromiseCommandMessage")
+			return table.unknown("GetPromiseCommandMessage", field)
 		}
 	}
 	return nil
@@ -2402,7 +2402,7 @@ func (r *PeekPromiseCommandMessage) read(table *fieldTable, level uint64) error 
 		case 12:
 			r.Name = table.text(field)
 		default:
-			return table.unknown("PeekPromiseCommandMessage")
+			return table.unknown("PeekPromiseCommandMessage", field)
 		}
 	}
 	return nil
@@ -2505,7 +2505,7 @@ func (r *CompletePromiseCommandMessage) read(table *fieldTable, level uint64) er
 		case 12:
 			r.Name = table.text(field)
 		default:
-			return table.unknown("CompletePromiseCommandMessage")
+			return table.unknown("CompletePromiseCommandMessage", field)
 		}
 	}
 	return nil
@@ -2598,7 +2598,7 @@ func (r *SleepCommandMessage) read(table *fieldTable, level uint64) error {
 		case 12:
 			r.Name = table.text(field)
 		default:
-			return table.unknown("SleepCommandMessage")
+			return table.unknown("SleepCommandMessage", field)
 		}
 	}
 	return nil
@@ -2717,7 +2717,7 @@ func (r *CallCommandMessage) read(table *fieldTable, level uint64) error {
 		case 12:
 			r.Name = table.text(field)
 		default:
-			return table.unknown("CallCommandMessage")
+			return table.unknown("CallCommandMessage", field)
 		}
 	}
 	return nil
@@ -2861,7 +2861,7 @@ func (r *OneWayCallCommandMessage) read(table *fieldTable, level uint64) error {
 		case 12:
 			r.Name = table.text(field)
 		default:
-			return table.unknown("OneWayCallCommandMessage")
+			return table.unknown("OneWayCallCommandMessage", field)
 		}
 	}
 	return nil
@@ -3013,7 +3013,7 @@ func (r *SendSignalCommandMessage) read(table *fieldTable, level uint64) error {
 		case 12:
 			r.EntryName = table.text(field)
 		default:
-			return table.unknown("SendSignalCommandMessage")
+			return table.unknown("SendSignalCommandMessage", field)
 		}
 	}
 	return nil
@@ -3110,7 +3110,7 @@ func (r *RunCommandMessage) read(table *fieldTable, level uint64) error {
 		case 12:
 			r.Name = table.text(field)
 		default:
-			return table.unknown("RunCommandMessage")
+			return table.unknown("RunCommandMessage", field)
 		}
 	}
 	return nil
@@ -3213,7 +3213,7 @@ func (r *AttachInvocationCommandMessage) read(table *fieldTable, level uint64) e
 		case 12:
 			r.Name = table.text(field)
 		default:
-			return table.unknown("AttachInvocationCommandMessage")
+			return table.unknown("AttachInvocationCommandMessage", field)
 		}
 	}
 	return nil
@@ -3330,7 +3330,7 @@ func (r *GetInvocationOutputCommandMessage) read(table *fieldTable, level uint64
 		case 12:
 			r.Name = table.text(field)
 		default:
-			return table.unknown("GetInvocationOutputCommandMessage")
+			return table.unknown("GetInvocationOutputCommandMessage", field)
 		}
 	}
 	return nil
@@ -3440,7 +3440,7 @@ func (r *CompleteAwakeableCommandMessage) read(table *fieldTable, level uint64) 
 		case 12:
 			r.Name = table.text(field)
 		default:
-			return table.unknown("CompleteAwakeableCommandMessage")
+			return table.unknown("CompleteAwakeableCommandMessage", field)
 		}
 	}
 	return nil
@@ -3544,7 +3544,7 @@ func (r *GetLazyStateCompletionNotificationMessage) read(table *fieldTable, leve
 			}
 			r.Result = value
 		default:
-			return table.unknown("GetLazyStateCompletionNotificationMessage")
+			return table.unknown("GetLazyStateCompletionNotificationMessage", field)
 		}
 	}
 	return nil
@@ -3652,7 +3652,7 @@ func (r *GetPromiseCompletionNotificationMessage) read(table *fieldTable, level 
 			}
 			r.Result = value
 		default:
-			return table.unknown("GetPromiseCompletionNotificationMessage")
+			return table.unknown("GetPromiseCompletionNotificationMessage", field)
 		}
 	}
 	return nil
@@ -3765,7 +3765,7 @@ func (r *PeekPromiseCompletionNotificationMessage) read(table *fieldTable, level
 			}
 			r.Result = value
 		default:
-			return table.unknown("PeekPromiseCompletionNotificationMessage")
+			return table.unknown("PeekPromiseCompletionNotificationMessage", field)
 		}
 	}
 	return nil
@@ -3878,7 +3878,7 @@ func (r *GetInvocationOutputCompletionNotificationMessage) read(table *fieldTabl
 			}
 			r.Result = value
 		default:
-			return table.unknown("GetInvocationOutputCompletionNotificationMessage")
+			return table.unknown("GetInvocationOutputCompletionNotificationMessage", field)
 		}
 	}
 	return nil
@@ -3984,7 +3984,7 @@ func (r *CompletePromiseCompletionNotificationMessage) read(table *fieldTable, l
 			}
 			r.Result = value
 		default:
-			return table.unknown("CompletePromiseCompletionNotificationMessage")
+			return table.unknown("CompletePromiseCompletionNotificationMessage", field)
 		}
 	}
 	return nil
@@ -4085,7 +4085,7 @@ func (r *CallCompletionNotificationMessage) read(table *fieldTable, level uint64
 			}
 			r.Result = value
 		default:
-			return table.unknown("CallCompletionNotificationMessage")
+			return table.unknown("CallCompletionNotificationMessage", field)
 		}
 	}
 	return nil
@@ -4186,7 +4186,7 @@ func (r *RunCompletionNotificationMessage) read(table *fieldTable, level uint64)
 			}
 			r.Result = value
 		default:
-			return table.unknown("RunCompletionNotificationMessage")
+			return table.unknown("RunCompletionNotificationMessage", field)
 		}
 	}
 	return nil
@@ -4287,7 +4287,7 @@ func (r *AttachInvocationCompletionNotificationMessage) read(table *fieldTable, 
 			}
 			r.Result = value
 		default:
-			return table.unknown("AttachInvocationCompletionNotificationMessage")
+			return table.unknown("AttachInvocationCompletionNotificationMessage", field)
 		}
 	}
 	return nil
@@ -4373,7 +4373,7 @@ func (r *SleepCompletionNotificationMessage) read(table *fieldTable, level uint6
 				return err
 			}
 		default:
-			return table.unknown("SleepCompletionNotificationMessage")
+			return table.unknown("SleepCompletionNotificationMessage", field)
 		}
 	}
 	return nil
@@ -4451,7 +4451,7 @@ func (r *GetLazyStateKeysCompletionNotificationMessage) read(table *fieldTable, 
 				return err
 			}
 		default:
-			return table.unknown("GetLazyStateKeysCompletionNotificationMessage")
+			return table.unknown("GetLazyStateKeysCompletionNotificationMessage", field)
 		}
 	}
 	return nil
@@ -4526,7 +4526,7 @@ func (r *CallInvocationIdCompletionNotificationMessage) read(table *fieldTable, 
 		case 16:
 			r.InvocationID = table.text(field)
 		default:
-			return table.unknown("CallInvocationIdCompletionNotificationMessage")
+			return table.unknown("CallInvocationIdCompletionNotificationMessage", field)
 		}
 	}
 	return nil
@@ -4642,7 +4642,7 @@ func (r *SignalNotificationMessage) read(table *fieldTable, level uint64) error 
 			}
 			r.Result = value
 		default:
-			return table.unknown("SignalNotificationMessage")
+			return table.unknown("SignalNotificationMessage", field)
 		}
 	}
 	return nil
@@ -4776,7 +4776,7 @@ func (r *NotificationTemplate) read(table *fieldTable, level uint64) error {
 			}
 			r.Result = value
 		default:
-			return table.unknown("NotificationTemplate")
+			return table.unknown("NotificationTemplate", field)
 		}
 	}
 	return nil

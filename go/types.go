@@ -1,7 +1,6 @@
 package pendratsoa
 
 import (
-	"fmt"
 	"strings"
 	"sync/atomic"
 	"unsafe"
@@ -54,7 +53,7 @@ func SchemaNamed(name string) (int, error) {
 			return number, nil
 		}
 	}
-	return 0, unknown("SchemaNamed", nameText(name), recordMeant(name))
+	return 0, unknown("SchemaNamed", "schema "+quoted(name), recordMeant(name))
 }
 
 // TypeName returns the name of the type that has a code, as "SleepCommand", or "CustomEntry(64513)" of a custom entry.
@@ -72,7 +71,7 @@ func TypeName(code uint16) (string, error) {
 func TypeCode(name string) (uint16, error) {
 	code := journalTypeCode([]byte(name))
 	if code < 0 {
-		return 0, arguments{name: nameText(name), meant: typeMeant(name)}.refusal("TypeCode", code)
+		return 0, arguments{name: "type " + quoted(name), meant: typeMeant(name)}.refusal("TypeCode", code)
 	}
 	return uint16(code), nil
 }
@@ -104,7 +103,7 @@ func isRecord(name string) bool {
 }
 
 func didYouMean(name string) string {
-	return fmt.Sprintf("; did you mean %q?", name)
+	return "; did you mean " + quoted(name) + "?"
 }
 
 // headerSize is how many bytes a header has, and codeSize how many of them have the code, which are the first.
@@ -126,11 +125,11 @@ func headerOf(call string, version int, code uint16, payloadLength int) ([]byte,
 		return nil, err
 	}
 	if payloadLength < 0 {
-		return nil, &Error{call, named("length", payloadLength), ErrNegative}
+		return nil, &Error{call, named("payload length", payloadLength), ErrNegative}
 	}
 	length, err := unsigned(call, "length", payloadLength)
 	if err != nil {
-		return nil, &Error{call, named("length", payloadLength), ErrTooLong}
+		return nil, &Error{call, "payload of " + byteCount(payloadLength), ErrTooLong}
 	}
 	header, result := written(headerSize, func(out []byte) int64 { return journalHeader(number, code, length, out) })
 	if result < 0 {
@@ -188,7 +187,7 @@ func appendEarlierFrame(call string, dst []byte, version int, code uint16, schem
 	}
 	if found != schema {
 		given := named(versionName, version)
-		return dst, &Error{call, given, unknownError(given + " has no message of this record")}
+		return dst, &Error{call, given, wholeError{given + " has no " + schemaNames[schema], ErrUnknown}}
 	}
 	canonical, err := canonicalOf(call, schema, payload)
 	if err != nil {
@@ -204,11 +203,6 @@ func appendEarlierFrame(call string, dst []byte, version int, code uint16, schem
 // versionAndCode returns the two arguments of a call that takes them.
 func versionAndCode(version int, code uint16) arguments {
 	return arguments{version: named(versionName, version), code: codeText(code)}
-}
-
-// nameText returns a name as an argument with its value.
-func nameText(name string) string {
-	return fmt.Sprintf("name %.80q", name)
 }
 
 // Room in bytes that is enough for each name of a type, and for most texts.

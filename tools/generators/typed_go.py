@@ -99,12 +99,12 @@ def reads(record):
     text = f"\nfunc (r *{name}) read(table *fieldTable, level uint64) error {{\n\t*r = {name}{{}}\n"
     text += "\tfor table.has(level) {\n"
     if not record.rows:
-        return text + f'\t\treturn table.unknown("{record.name}")\n\t}}\n\treturn nil\n}}\n'
+        return text + f'\t\treturn table.unknown("{record.name}", table.next())\n\t}}\n\treturn nil\n}}\n'
     text += "\t\tfield := table.next()\n\t\tswitch field[fieldNumber] {\n"
     for row in record.rows:
         for field in row.members if isinstance(row, TypedOneOf) else [row]:
             text += f"\t\tcase {field.number}:\n" + read_field(record, row, field)
-    return text + f'\t\tdefault:\n\t\t\treturn table.unknown("{record.name}")\n\t\t}}\n\t}}\n\treturn nil\n}}\n'
+    return text + f'\t\tdefault:\n\t\t\treturn table.unknown("{record.name}", field)\n\t\t}}\n\t}}\n\treturn nil\n}}\n'
 
 
 READS = {
