@@ -2,6 +2,7 @@
 
 use crate::error::{Argument, Error};
 use crate::ffi::{self, About, Refusal};
+use crate::schema::Schema;
 use crate::version::Version;
 
 /// The version of the library, as `0.3.0`.
@@ -139,7 +140,7 @@ pub(crate) fn append_earlier_frame(
     out: &mut Vec<u8>,
 ) -> Result<usize, Error> {
     if schema(version, code)? != earlier {
-        return Err(Error::NoFrame(version));
+        return Err(Error::NoFrame(version, Schema::try_from(earlier)?));
     }
     let header = header(version, code, payload.len())?;
     let length = header.len() + payload.len();

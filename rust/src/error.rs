@@ -1,7 +1,7 @@
 //! Why a call fails.
 
 use std::error;
-use std::fmt;
+use std::fmt::{self, Write};
 use std::io::{self, ErrorKind};
 
 use crate::calls::type_name;
@@ -27,9 +27,9 @@ pub enum Error {
     /// A version, a schema, a code or a name does not exist, or is not of the kind that the call is for. An unknown
     /// version is an error only where a [`Version`] is made.
     Unknown(Argument),
-    /// There is no frame at this version, where the type has another record: a suspension as it is before version 7 has
-    /// none from 7 on.
-    NoFrame(Version),
+    /// There is no frame of this record at this version, where the type has another: a suspension as it is before
+    /// version 7 has none from 7 on.
+    NoFrame(Version, Schema),
     /// A notification has no id.
     NoId(Argument),
     /// A notification has an id, and no result.
@@ -163,7 +163,7 @@ impl Error {
     ///     if let Item::Message(message) = item {
     ///         if let Err(error) = message.json() {
     ///             assert_eq!((error.code(), error.offset()), (Some(0x0403), Some(8)));
-    ///             let text = "SetStateCommand at offset 8: the payload of 3 bytes is malformed";
+    ///             let text = "SetStateCommand at offset 8: payload of 3 bytes is malformed";
     ///             assert_eq!(error.to_string(), text);
     ///         }
     ///     }
@@ -248,10 +248,8 @@ impl fmt::Display for Error {
     fn fmt(&self, f: &mut fmt::Formatter<'_>) -> fmt::Result {
         match self {
             Error::Malformed(argument) => write!(f, "{argument} is malformed"),
-            Error::OutOfMemory => f.write_str("an allocation failed"),
-            Error::TooLong(argument) => {
-                write!(f, "{argument}: the payload exceeds 4,294,967,295 bytes")
-            }
+            Error::OutOfMemory => f.write_str("out of memory"),
+            Error::TooLong(argument) => write_too_long(f, argument),
             Error::MessageTooLong(error) => error.fmt(f),
             Error::Unknown(Argument::Version(given)) => write_unknown_version(f, given),
             Error::Unknown(Argument::Schema(number)) => {
@@ -267,33 +265,39 @@ impl fmt::Display for Error {
             ),
             Error::Unknown(Argument::Name(name)) => write_unknown_name(f, name),
             Error::Unknown(argument) => write!(f, "{argument} is unknown"),
-            Error::NoFrame(version) => {
-                write!(
-                    f,
-                    "protocol version {version} has no message of this record"
-                )
+            Error::NoFrame(version, schema) => {
+                write!(f, "protocol version {version} has no {}", schema.name())
             }
             Error::NoId(argument) => write!(f, "{argument} has no id"),
             Error::NoResult(argument) => write!(f, "{argument} has an id, and no result"),
-            Error::Json(error) => write!(f, "the JSON text: {error}"),
-            Error::Field(error) => write!(f, "the field {error}"),
+            Error::Json(error) => write!(f, "JSON of {}: {error}", bytes(error.length)),
+            Error::Field(error) => write!(f, "field {error}"),
             Error::Numbering(error) => error.fmt(f),
             Error::Incomplete(error) => error.fmt(f),
             Error::Unexpected(what) => {
                 write!(
                     f,
-                    "the library returned {what}, which this crate does not know"
+                    "the library returned {what}, which this package does not know"
                 )
             }
         }
     }
 }
 
+/// Writes that a payload is too long. The library does not say which one is, or becomes so.
+fn write_too_long(f: &mut fmt::Formatter<'_>, argument: &Argument) -> fmt::Result {
+    f.write_str("payload ")?;
+    if let Argument::PayloadLength(length) = argument {
+        write!(f, "of {} ", bytes(*length))?;
+    }
+    f.write_str("is too long: more than 4,294,967,295 bytes")
+}
+
 /// Writes that a version is unknown, as it was given: in quotes if it is not a number.
 fn write_unknown_version(f: &mut fmt::Formatter<'_>, given: &str) -> fmt::Result {
     f.write_str("unknown protocol version ")?;
     if given.is_empty() || given.contains(|letter: char| !letter.is_ascii_digit()) {
-        write!(f, "{given:?}")?;
+        write!(f, "{}", Quoted(given))?;
     } else {
         f.write_str(given)?;
     }
@@ -302,10 +306,10 @@ fn write_unknown_version(f: &mut fmt::Formatter<'_>, given: &str) -> fmt::Result
 
 /// Writes that a name is unknown, and asks whether a type was meant if it is that of the type's record.
 fn write_unknown_name(f: &mut fmt::Formatter<'_>, name: &str) -> fmt::Result {
-    write!(f, "unknown name {name:?}")?;
+    write!(f, "unknown type {}", Quoted(name))?;
     match name.split_once("Message") {
         Some((meant, _)) if Schema::from_name(name).is_some() => {
-            write!(f, "; did you mean {meant:?}?")
+            write!(f, "; did you mean {}?", Quoted(meant))
         }
         _ => Ok(()),
     }
@@ -364,7 +368,7 @@ impl fmt::Display for MessagePayload {
         if let Some(offset) = self.offset {
             write!(f, " at offset {offset}")?;
         }
-        write!(f, ": the payload of {}", bytes(self.length))
+        write!(f, ": payload of {}", bytes(self.length))
     }
 }
 
@@ -384,21 +388,58 @@ fn name_and_code(code: u16) -> String {
 impl fmt::Display for Argument {
     fn fmt(&self, f: &mut fmt::Formatter<'_>) -> fmt::Result {
         match self {
-            Argument::Version(given) => write!(f, "the version {given:?}"),
-            Argument::Code(code) => write!(f, "the code {code:#06x}"),
-            Argument::Schema(number) => write!(f, "the schema {number}"),
-            Argument::Name(name) => write!(f, "the name {name:?}"),
-            Argument::PayloadLength(length) => write!(f, "the payload length {length}"),
-            Argument::Payload(length) => write!(f, "the payload of {}", bytes(*length)),
+            Argument::Version(given) => write!(f, "protocol version {}", Quoted(given)),
+            Argument::Code(code) => write!(f, "code {code:#06x}"),
+            Argument::Schema(number) => write!(f, "schema {number}"),
+            Argument::Name(name) => write!(f, "type {}", Quoted(name)),
+            Argument::PayloadLength(length) => write!(f, "payload length {length}"),
+            Argument::Payload(length) => write!(f, "payload of {}", bytes(*length)),
             Argument::MessagePayload(payload) => payload.fmt(f),
-            Argument::Json(length) => write!(f, "the JSON text of {}", bytes(*length)),
-            Argument::First(length) => write!(f, "the first payload of {}", bytes(*length)),
-            Argument::Second(length) => write!(f, "the second payload of {}", bytes(*length)),
-            Argument::Set(length) => write!(f, "the descriptor set of {}", bytes(*length)),
-            Argument::Stream(length) => write!(f, "the stream of {}", bytes(*length)),
+            Argument::Json(length) => write!(f, "JSON of {}", bytes(*length)),
+            Argument::First(length) => write!(f, "first payload of {}", bytes(*length)),
+            Argument::Second(length) => write!(f, "second payload of {}", bytes(*length)),
+            Argument::Set(length) => write!(f, "descriptor set of {}", bytes(*length)),
+            Argument::Stream(length) => write!(f, "stream of {}", bytes(*length)),
         }
     }
 }
+
+/// A text that came from outside, as errors print it: on one line, and with no command for a terminal.
+pub(crate) struct Escaped<'a>(pub(crate) &'a str);
+
+impl fmt::Display for Escaped<'_> {
+    fn fmt(&self, f: &mut fmt::Formatter<'_>) -> fmt::Result {
+        for letter in self.0.chars() {
+            if is_control(letter) {
+                write!(f, "\\u{:04x}", u32::from(letter))?;
+            } else {
+                f.write_char(letter)?;
+            }
+        }
+        Ok(())
+    }
+}
+
+/// Whether a character ends a line, is a command for a terminal, or turns the text after it around.
+fn is_control(letter: char) -> bool {
+    letter.is_control() || matches!(letter, '\u{2028}'..='\u{202e}' | '\u{2066}'..='\u{2069}')
+}
+
+/// A name that came from outside, in quotes, of a long one its beginning.
+pub(crate) struct Quoted<'a>(pub(crate) &'a str);
+
+impl fmt::Display for Quoted<'_> {
+    fn fmt(&self, f: &mut fmt::Formatter<'_>) -> fmt::Result {
+        let Quoted(name) = self;
+        match name.char_indices().nth(MOST_SHOWN) {
+            None => write!(f, "\"{}\"", Escaped(name)),
+            Some((end, _)) => write!(f, "\"{}\"..", Escaped(&name[..end])),
+        }
+    }
+}
+
+/// How many characters of a name are printed.
+const MOST_SHOWN: usize = 64;
 
 /// A length in bytes, as text.
 fn bytes(length: usize) -> String {
@@ -417,20 +458,20 @@ mod tests {
         let errors = [
             (
                 Error::Malformed(Argument::Second(3)),
-                "the second payload of 3 bytes is malformed",
+                "second payload of 3 bytes is malformed",
             ),
             (
                 Error::Malformed(Argument::Payload(1)),
-                "the payload of 1 byte is malformed",
+                "payload of 1 byte is malformed",
             ),
             (
                 Error::NoId(Argument::Payload(0)),
-                "the payload of 0 bytes has no id",
+                "payload of 0 bytes has no id",
             ),
-            (Error::OutOfMemory, "an allocation failed"),
+            (Error::OutOfMemory, "out of memory"),
             (
                 Error::TooLong(Argument::PayloadLength(1 << 32)),
-                "the payload length 4294967296: the payload exceeds 4,294,967,295 bytes",
+                "payload of 4294967296 bytes is too long: more than 4,294,967,295 bytes",
             ),
             (
                 Error::MessageTooLong(MessageTooLong {
@@ -442,8 +483,8 @@ mod tests {
                 "a message of type InputCommand (0x0400) at offset 106 has 1025 bytes, more than the limit of 1024",
             ),
             (
-                Error::NoFrame(Version::V7),
-                "protocol version 7 has no message of this record",
+                Error::NoFrame(Version::V7, Schema::SuspensionMessageV6),
+                "protocol version 7 has no SuspensionMessageV6",
             ),
             (
                 Error::Unknown(Argument::Version("4".to_owned())),
@@ -455,23 +496,31 @@ mod tests {
             ),
             (
                 Error::Unknown(Argument::Name("SuspensionMessageV6".to_owned())),
-                "unknown name \"SuspensionMessageV6\"; did you mean \"Suspension\"?",
+                "unknown type \"SuspensionMessageV6\"; did you mean \"Suspension\"?",
             ),
             (
-                Error::Unknown(Argument::Name("a\"\n".to_owned())),
-                "unknown name \"a\\\"\\n\"",
+                Error::Unknown(Argument::Name("a\u{1b}\n\u{7f}\u{85}\u{202e}".to_owned())),
+                r#"unknown type "a\u001b\u000a\u007f\u0085\u202e""#,
+            ),
+            (
+                Error::Unknown(Argument::Name("\u{2067}".repeat(65))),
+                &format!("unknown type \"{}\"..", r"\u2067".repeat(64)),
+            ),
+            (
+                Error::Unknown(Argument::Version("8\r".to_owned())),
+                r#"unknown protocol version "8\u000d" (5 to 9)"#,
             ),
             (
                 Error::TooLong(Argument::Json(3)),
-                "the JSON text of 3 bytes: the payload exceeds 4,294,967,295 bytes",
+                "payload is too long: more than 4,294,967,295 bytes",
             ),
             (
                 Error::NoId(Argument::Payload(2)),
-                "the payload of 2 bytes has no id",
+                "payload of 2 bytes has no id",
             ),
             (
                 Error::NoResult(Argument::First(2)),
-                "the first payload of 2 bytes has an id, and no result",
+                "first payload of 2 bytes has an id, and no result",
             ),
             (
                 Error::Incomplete(Incomplete::of(&[4], 17)),
@@ -491,15 +540,15 @@ mod tests {
             ),
             (
                 Error::NoId(Argument::Payload(2)).of_message(0x800D, Some(3)),
-                "CallCompletionNotification at offset 3: the payload of 2 bytes has no id",
+                "CallCompletionNotification at offset 3: payload of 2 bytes has no id",
             ),
             (
                 Error::Malformed(Argument::Payload(2)).of_message(0x0403, None),
-                "SetStateCommand: the payload of 2 bytes is malformed",
+                "SetStateCommand: payload of 2 bytes is malformed",
             ),
             (
                 Error::unexpected("the error", -12),
-                "the library returned the error -12, which this crate does not know",
+                "the library returned the error -12, which this package does not know",
             ),
         ];
         for (error, text) in errors {

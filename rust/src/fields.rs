@@ -110,7 +110,7 @@ pub trait MessageRecord<'a>: Record<'a> {
         match Self::BEFORE_VERSION {
             // the record that the type has at the version is written of what it has of this one
             None => frame(version, code, &out[HEADER..]),
-            Some(_) => Err(Error::NoFrame(version)),
+            Some(_) => Err(Error::NoFrame(version, Self::SCHEMA)),
         }
     }
 }
@@ -139,7 +139,7 @@ pub trait Fields<'a>: Default {
     #[doc(hidden)]
     #[cold]
     fn unknown(number: u64) -> Error {
-        Error::unexpected(&format!("a field of {}:", Self::LISTED.name), number)
+        Error::Unexpected(format!("the field {number} of {}", Self::LISTED.name))
     }
 }
 
@@ -183,7 +183,7 @@ fn append_table<'a, R: Record<'a>>(record: &R, out: &mut Vec<u8>) -> Result<usiz
 fn rejected(entries: &[Entry], schema: u32, number: u64, index: u64) -> Error {
     let (reason, index) = match (FieldReason::from_number(number), usize::try_from(index)) {
         (Some(reason), Ok(index)) if index < entries.len() => (reason, index),
-        _ => return Error::unexpected("the reason", number),
+        _ => return Error::unexpected("the kind of table", number),
     };
     let path = path(schema as usize, &entries[..=index]);
     Error::Field(FieldError { path, reason })

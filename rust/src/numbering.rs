@@ -5,7 +5,7 @@ use std::fmt;
 use std::sync::Arc;
 
 use crate::calls::{frame, is_well_formed, of_payload, schema, text};
-use crate::error::{Argument, Error};
+use crate::error::{Argument, Error, Escaped, Quoted};
 use crate::ffi::{
     self, Refusal, Renumbering, LIST_LISTED, LIST_NO_RENAME, LIST_NO_SET, NUMBERING_READING,
     NUMBERING_WRITING,
@@ -79,7 +79,7 @@ impl Numbering {
         if let Some(name) = names.find(|name| name.contains(&['=', '\n'][..])) {
             return Err(Error::Numbering(NumberingError {
                 reason: NumberingReason::NoRename,
-                text: format!("{name:?} is not the name of a message"),
+                text: format!("{} is not the name of a message", Quoted(name)),
             }));
         }
         let lines: Vec<String> = renames
@@ -282,7 +282,7 @@ impl fmt::Debug for Numbering {
 
 impl fmt::Display for NumberingError {
     fn fmt(&self, f: &mut fmt::Formatter<'_>) -> fmt::Result {
-        write!(f, "{}: {}", self.reason, self.text)
+        write!(f, "{}: {}", self.reason, Escaped(&self.text))
     }
 }
 
@@ -290,8 +290,8 @@ impl fmt::Display for NumberingError {
 impl fmt::Display for NumberingReason {
     fn fmt(&self, f: &mut fmt::Formatter<'_>) -> fmt::Result {
         f.write_str(match self {
-            NumberingReason::NoSet => "the descriptor set",
-            NumberingReason::NoRename => "the renames",
+            NumberingReason::NoSet => "descriptor set",
+            NumberingReason::NoRename => "renames",
         })
     }
 }
@@ -377,8 +377,8 @@ mod tests {
     fn each_kind_of_text() {
         assert_eq!(list_of([0], b"list".to_vec()), Ok("list".to_owned()));
         for (kind, reason, expected) in [
-            (1, NumberingReason::NoSet, "the descriptor set: why"),
-            (2, NumberingReason::NoRename, "the renames: why"),
+            (1, NumberingReason::NoSet, "descriptor set: why"),
+            (2, NumberingReason::NoRename, "renames: why"),
         ] {
             match list_of([kind], b"why".to_vec()) {
                 Err(Error::Numbering(error)) => {

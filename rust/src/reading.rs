@@ -4,7 +4,7 @@ use std::error;
 use std::fmt;
 
 use crate::calls::text;
-use crate::error::{narrowed, Argument, Error};
+use crate::error::{narrowed, Argument, Error, Escaped};
 use crate::ffi::{self, About, READ};
 
 /// Why a JSON text is rejected, and where.
@@ -17,6 +17,8 @@ pub struct JsonError {
     pub offset: Option<usize>,
     /// What leads to the rejected value, as `headers[2].key`; empty if the text is not JSON.
     pub path: String,
+    /// How many bytes the text has.
+    pub length: usize,
 }
 
 /// The reasons for which a JSON text is rejected.
@@ -80,11 +82,11 @@ pub fn from_json(schema: u32, json: impl AsRef<[u8]>) -> Result<Vec<u8>, Error> 
             _ => Argument::Json(json.len()),
         })
     })?;
-    payload_of(numbers, bytes)
+    payload_of(numbers, bytes, json.len())
 }
 
-/// The payload, or the error, of these numbers and bytes.
-fn payload_of(numbers: [u64; 2], bytes: Vec<u8>) -> Result<Vec<u8>, Error> {
+/// The payload, or the error, of these numbers and bytes, for a text of a length.
+fn payload_of(numbers: [u64; 2], bytes: Vec<u8>, length: usize) -> Result<Vec<u8>, Error> {
     let [kind, offset] = numbers;
     if kind == READ {
         return Ok(bytes);
@@ -101,13 +103,14 @@ fn payload_of(numbers: [u64; 2], bytes: Vec<u8>) -> Result<Vec<u8>, Error> {
         reason,
         offset,
         path,
+        length,
     }))
 }
 
 impl fmt::Display for JsonError {
     fn fmt(&self, f: &mut fmt::Formatter<'_>) -> fmt::Result {
         if !self.path.is_empty() {
-            write!(f, "{}: ", self.path)?;
+            write!(f, "{}: ", Escaped(&self.path))?;
         }
         self.reason.fmt(f)?;
         match self.offset {
@@ -140,7 +143,7 @@ mod tests {
 
     #[test]
     fn each_kind_of_text() {
-        assert_eq!(payload_of([0, 0], vec![1]), Ok(vec![1]));
+        assert_eq!(payload_of([0, 0], vec![1], 2), Ok(vec![1]));
         for (number, offset, path, expected) in [
             (1, 7, "", "not JSON at byte 7"),
             (2, 0, "a", "a: unknown member"),
@@ -150,9 +153,11 @@ mod tests {
             (6, 0, "a[1].b", "a[1].b: out of range"),
             (7, 0, "a", "a: not base64"),
             (8, 0, "a", "a: too deep"),
+            (2, 0, "a\u{1b}", "a\\u001b: unknown member"),
         ] {
-            match payload_of([number, offset], path.as_bytes().to_vec()) {
+            match payload_of([number, offset], path.as_bytes().to_vec(), 9) {
                 Err(Error::Json(error)) => {
+                    assert_eq!((error.path.as_str(), error.length), (path, 9));
                     let error: Box<dyn error::Error> = error.into();
                     assert_eq!(error.to_string(), expected);
                 }
@@ -166,7 +171,7 @@ mod tests {
         for number in [9, u64::MAX] {
             let text = format!("the kind of JSON text {number}");
             assert_eq!(
-                payload_of([number, 0], Vec::new()),
+                payload_of([number, 0], Vec::new(), 0),
                 Err(Error::Unexpected(text))
             );
         }

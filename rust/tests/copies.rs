@@ -67,7 +67,7 @@ fn suspensions_of_each_version() {
     let flat = Ok(b"\x00\x01\x00\x00\x00\x00\x00\x06\n\x04\x01\x02\x03\x04".to_vec());
     let flattened = Ok(b"\x00\x01\x00\x00\x00\x00\x00\x06\n\x04\x01\x02\x01\x03".to_vec());
     let whole = Ok([&b"\x00\x01\x00\x00\x00\x00\x00\x14"[..], v7].concat());
-    let none = |version| Err(Error::NoFrame(version));
+    let none = |version| Err(Error::NoFrame(version, Schema::SuspensionMessageV6));
     for (came, payload, version, wanted) in [
         (V6, v6, V6, flat.clone()),
         (V6, v6, V5, flat.clone()),
@@ -91,7 +91,7 @@ fn suspensions_of_each_version() {
     let (mut out, error) = (vec![7], malformed.frame().unwrap_err());
     assert_eq!(
         error.to_string(),
-        "Suspension: the payload of 2 bytes is malformed"
+        "Suspension: payload of 2 bytes is malformed"
     );
     assert_eq!(malformed.append_frame(&mut out), Err(error));
     assert_eq!(out, [7]);

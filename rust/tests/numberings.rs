@@ -160,7 +160,7 @@ fn streams_are_read_and_written() {
     assert_eq!((error.code(), error.offset()), (Some(0x0403), Some(0)));
     assert_eq!(
         error.to_string(),
-        "SetStateCommand at offset 0: the payload of 1 byte is malformed"
+        "SetStateCommand at offset 0: payload of 1 byte is malformed"
     );
 }
 

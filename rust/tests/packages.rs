@@ -633,7 +633,7 @@ fn where_an_item_begins_is_not_compared() {
     assert_eq!((error.code(), error.offset()), (Some(0x0403), None));
     assert_eq!(
         error.to_string(),
-        "SetStateCommand: the payload of 3 bytes is malformed"
+        "SetStateCommand: payload of 3 bytes is malformed"
     );
     let owned = second.into_owned().unwrap();
     assert_eq!((owned.item(), owned.item().offset()), (second, Some(8)));

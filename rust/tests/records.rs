@@ -9,7 +9,7 @@ use pendratsoa::messages::{
     SuspensionMessage, SuspensionMessageV6, Value, Void,
 };
 use pendratsoa::{
-    header, Argument, Decoder, Error, FieldReason, Item, Message, MessageType, Version,
+    header, Argument, Decoder, Error, FieldReason, Item, Message, MessageType, Schema, Version,
 };
 
 const RECORDED: &[u8] = include_bytes!("../../examples/streams/recorded");
@@ -286,7 +286,7 @@ fn what_is_no_record() {
     );
     let mut buffer = vec![7];
     for version in [Version::V7, Version::V9] {
-        let none = Error::NoFrame(version);
+        let none = Error::NoFrame(version, Schema::SuspensionMessageV6);
         assert_eq!(suspension.frame(version), Err(none.clone()));
         let made = Message::from_record(version, &suspension, &mut buffer);
         assert_eq!(made, Err(none));
