@@ -3,7 +3,7 @@
 use std::io;
 
 use pendratsoa::{
-    append_frame, next_item, Decoder, Error, Item, Message, MessageType, Next, Version,
+    append_frame, next_item, Decoder, Error, Item, Message, MessageType, Next, Schema, Version,
 };
 
 /// Flags that no encoder sets, long lengths of fields, a custom entry, and what is of no type.
