@@ -219,7 +219,7 @@ class TestCompiled(unittest.TestCase):
             self.assertRaises(TypeError, header, *given)
         self.assertRaises(TypeError, header, 8, INPUT_COMMAND, payload_length=0)
         self.assertEqual(header(8, INPUT_COMMAND, 9), INPUT[:8])
-        with self.assertRaisesRegex(Unknown, "^code 1037 is not that of a notification$") as unknown:
+        with self.assertRaisesRegex(Unknown, "^unknown code 0x040d, ") as unknown:
             native.call(_named.PLACES["notification"], "name")(CALL_COMMAND, b"")
         self.assertEqual(unknown.exception.call, "name")
 

@@ -99,7 +99,7 @@ class TestFrames(unittest.TestCase):
                 self.assertEqual(message.append_frame(out, version), len(frame))
                 self.assertEqual(out, b"\xff" + frame)
                 self.assertEqual(message.message.frame(version), frame)
-        text = "^there is no SuspensionMessageV6 at version 8$"
+        text = "^protocol version 8 has no SuspensionMessageV6$"
         self.assertRaisesRegex(Unknown, text, Message(6, 1, b"").frame, 8)
         text = "^append_frame: out must be a bytearray"
         self.assertRaisesRegex(TypeError, text, Message(6, 1, b"").append_frame, b"")
@@ -171,7 +171,7 @@ class TestEnd(unittest.TestCase):
             (INPUT[:1], None, "an item"),
             (INPUT[:2], INPUT_COMMAND, "InputCommand"),
             (INPUT[:7], INPUT_COMMAND, "InputCommand"),
-            (b"\x00\x08", 8, "code 0x8"),
+            (b"\x00\x08", 8, "code 0x0008"),
         ):
             stream = Stream()
             for at in range(len(data)):

@@ -116,7 +116,7 @@ class TestRecord(unittest.TestCase):
             for record in (Value, dict, "EndMessage", EndMessage(), None):
                 with self.assertRaises(TypeError) as raised:
                     item.record(record)
-                name = record.__name__ if isinstance(record, type) else repr(record)
+                name = record.__name__ if isinstance(record, type) else f"an object of {type(record).__name__}"
                 text = f"record: record must be the class of a message's record, not {name}"
                 self.assertEqual(str(raised.exception), text)
 
@@ -157,7 +157,7 @@ class TestOffsets(unittest.TestCase):
                 with self.assertRaises(Malformed) as raised:
                     call()
                 error = raised.exception
-                text = f"SetStateCommand{where}: payload of 1 byte is not well-formed"
+                text = f"SetStateCommand{where}: payload of 1 byte is malformed"
                 self.assertEqual((str(error), error.code, error.offset), (text, SET_STATE_COMMAND, offset))
                 self.assertEqual((error.call, error.argument, error.value), (name, "payload", b"\n"))
             self.assertEqual(out, b"")
@@ -179,7 +179,7 @@ class TestOffsets(unittest.TestCase):
         for call in ("frame", "append_frame"):
             with self.assertRaises(Malformed) as raised:
                 getattr(Message(6, SUSPENSION, b"\n"), call)(*([bytearray()] if call == "append_frame" else []))
-            self.assertEqual(str(raised.exception), "Suspension: payload of 1 byte is not well-formed")
+            self.assertEqual(str(raised.exception), "Suspension: payload of 1 byte is malformed")
             self.assertEqual(raised.exception.call, call)
 
     def test_a_call_by_itself_knows_no_message(self):

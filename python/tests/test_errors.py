@@ -29,20 +29,21 @@ from support import replaced, returning
 BAD = b"\x12"
 # a notification with only a result, and one with only an id
 NO_ID, NO_RESULT = b"\x22\x00", b"\x10\x11"
+OR_NOT = ", or not of the kind that the call is for"
 
 
 class TestErrors(unittest.TestCase):
     def test_each_names_the_call_the_argument_and_its_value(self):
         long = b"\xff" * 1000
         for call, kind, argument, value, name, text in (
-            (lambda: pendratsoa.type_name(8), Unknown, "code", 8, "type_name", "code 8 is not that of a type"),
+            (lambda: pendratsoa.type_name(8), Unknown, "code", 8, "type_name", f"unknown code 0x0008{OR_NOT}"),
             (
                 lambda: pendratsoa.type_code("Sleep"),
                 Unknown,
                 "name",
                 "Sleep",
                 "type_code",
-                "unknown type name 'Sleep'",
+                'unknown type "Sleep"',
             ),
             (
                 lambda: pendratsoa.type_code("\ud800"),
@@ -50,10 +51,10 @@ class TestErrors(unittest.TestCase):
                 "name",
                 "\ud800",
                 "type_code",
-                "unknown type name '\\ud800'",
+                'unknown type "\\ud800"',
             ),
             (lambda: pendratsoa.schema(4, 0), Unknown, "version", 4, "schema", "unknown protocol version 4 (5 to 9)"),
-            (lambda: pendratsoa.schema(8, 8), Unknown, "code", 8, "schema", "code 8 is not that of a named type"),
+            (lambda: pendratsoa.schema(8, 8), Unknown, "code", 8, "schema", f"unknown code 0x0008{OR_NOT}"),
             (
                 lambda: pendratsoa.header(4, 8, 0),
                 Unknown,
@@ -62,14 +63,14 @@ class TestErrors(unittest.TestCase):
                 "header",
                 "unknown protocol version 4 (5 to 9)",
             ),
-            (lambda: pendratsoa.header(8, 8, 0), Unknown, "code", 8, "header", "code 8 is not that of a type"),
+            (lambda: pendratsoa.header(8, 8, 0), Unknown, "code", 8, "header", f"unknown code 0x0008{OR_NOT}"),
             (
                 lambda: pendratsoa.header(8, 0, 1 << 32),
                 TooLong,
                 "payload_length",
                 1 << 32,
                 "header",
-                "payload_length 4294967296 is more than 4,294,967,295",
+                "payload of 4294967296 bytes is too long: more than 4,294,967,295 bytes",
             ),
             (
                 lambda: pendratsoa.frame(8, CUSTOM_ENTRY, b""),
@@ -77,7 +78,7 @@ class TestErrors(unittest.TestCase):
                 "code",
                 CUSTOM_ENTRY,
                 "frame",
-                "code 64513 is not that of a named type",
+                f"unknown code 0xfc01{OR_NOT}",
             ),
             (
                 lambda: pendratsoa.frame(8, 2, BAD),
@@ -85,7 +86,7 @@ class TestErrors(unittest.TestCase):
                 "payload",
                 BAD,
                 "frame",
-                "payload of 1 byte is not well-formed",
+                "payload of 1 byte is malformed",
             ),
             (
                 lambda: pendratsoa.canonical(pendratsoa.SCHEMAS, b""),
@@ -101,7 +102,7 @@ class TestErrors(unittest.TestCase):
                 "schema",
                 "Sleep",
                 "to_json",
-                "unknown schema 'Sleep'",
+                'unknown schema "Sleep"',
             ),
             (
                 lambda: pendratsoa.canonical(13, long),
@@ -109,7 +110,7 @@ class TestErrors(unittest.TestCase):
                 "payload",
                 long,
                 "canonical",
-                "payload of 1000 bytes is not well-formed",
+                "payload of 1000 bytes is malformed",
             ),
             (
                 lambda: pendratsoa.merge(13, BAD, b""),
@@ -117,7 +118,7 @@ class TestErrors(unittest.TestCase):
                 "first",
                 BAD,
                 "merge",
-                "first payload of 1 byte is not well-formed",
+                "first payload of 1 byte is malformed",
             ),
             (
                 lambda: pendratsoa.merge("ErrorMessage", b"", BAD),
@@ -125,7 +126,7 @@ class TestErrors(unittest.TestCase):
                 "second",
                 BAD,
                 "merge",
-                "second payload of 1 byte is not well-formed",
+                "second payload of 1 byte is malformed",
             ),
             (
                 lambda: pendratsoa.header_eq(SET_STATE_COMMAND, b"", BAD),
@@ -133,7 +134,7 @@ class TestErrors(unittest.TestCase):
                 "second",
                 BAD,
                 "header_eq",
-                "second payload of 1 byte is not well-formed",
+                "second payload of 1 byte is malformed",
             ),
             (
                 lambda: pendratsoa.difference(SET_STATE_COMMAND, BAD, b""),
@@ -141,7 +142,7 @@ class TestErrors(unittest.TestCase):
                 "first",
                 BAD,
                 "difference",
-                "first payload of 1 byte is not well-formed",
+                "first payload of 1 byte is malformed",
             ),
             (
                 lambda: pendratsoa.difference(2, b"", b""),
@@ -149,7 +150,7 @@ class TestErrors(unittest.TestCase):
                 "code",
                 2,
                 "difference",
-                "code 2 is not that of a command",
+                f"unknown code 0x0002{OR_NOT}",
             ),
             (
                 lambda: pendratsoa.notification(CALL_COMMAND, b""),
@@ -157,7 +158,7 @@ class TestErrors(unittest.TestCase):
                 "code",
                 CALL_COMMAND,
                 "notification",
-                "code 1037 is not that of a notification",
+                f"unknown code 0x040d{OR_NOT}",
             ),
             (
                 lambda: pendratsoa.notification(SIGNAL_NOTIFICATION, NO_ID),
@@ -257,7 +258,7 @@ class TestErrors(unittest.TestCase):
         ):
             with self.assertRaises(JournalError) as raised:
                 call()
-            text = r"^(SetStateCommand at offset 0: )?(first |second )?(payload|json) of \d+ bytes"
+            text = r"^(SetStateCommand at offset 0: )?(first |second )?(payload|JSON) of \d+ bytes"
             self.assertRegex(str(raised.exception), text)
             self.assertNotIn("secret", repr(raised.exception))
 
@@ -270,42 +271,42 @@ class TestErrors(unittest.TestCase):
 
     def test_what_fails_without_an_argument(self):
         for number, kind, text in (
-            (-2, OutOfMemory, "an allocation failed"),
-            (-3, NoRoom, "a slice for numbers was too short"),
-            (-4, TooLong, "the result would have more than 4,294,967,295 bytes"),
+            (-2, OutOfMemory, "out of memory"),
+            (-3, NoRoom, "not enough room"),
+            (-4, TooLong, "payload is too long: more than 4,294,967,295 bytes"),
         ):
             with replaced("journal_canonical", returning(number)), self.assertRaises(kind) as raised:
                 pendratsoa.canonical(0, b"")
             self.assertEqual((str(raised.exception), raised.exception.argument), (text, None))
 
     def test_what_a_later_library_may_return(self):
-        unknown = "the library returned {}, which this module does not know"
+        unknown = "the library returned {}, which this package does not know"
         for function, found, call, what in (
-            ("journal_canonical", returning(-12), lambda: pendratsoa.canonical(0, b""), "-12"),
-            ("journal_schema", returning(-9), lambda: pendratsoa.schema(8, 0), "-9"),
+            ("journal_canonical", returning(-12), lambda: pendratsoa.canonical(0, b""), "the error -12"),
+            ("journal_schema", returning(-9), lambda: pendratsoa.schema(8, 0), "the error -9"),
             (
                 "journal_notification",
                 returning(0, 3, 0, 0, 0),
                 lambda: pendratsoa.notification(SIGNAL_NOTIFICATION, b""),
-                "an id of the kind 3",
+                "the kind of id 3",
             ),
             (
                 "journal_notification",
                 returning(0, 0, 0, 0, 5),
                 lambda: pendratsoa.notification(SIGNAL_NOTIFICATION, b""),
-                "a result of the kind 5",
+                "the kind of result 5",
             ),
             (
                 "journal_payload_of_json",
                 returning(0, 9, 0),
                 lambda: pendratsoa.from_json(0, "[{}]"),
-                "a JSON text of the kind 9",
+                "the kind of JSON text 9",
             ),
             (
                 "journal_verdict",
                 returning(0, 7, 0),
                 lambda: pendratsoa.compare_journals(8, b"", b""),
-                "a verdict of the kind 7",
+                "the kind of verdict 7",
             ),
         ):
             with replaced(function, found), self.assertRaises(JournalError) as later:

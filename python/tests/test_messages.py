@@ -120,7 +120,7 @@ class TestValues(unittest.TestCase):
         self.assertLess(len(text), 120)
 
     def test_a_code_that_no_type_has(self):
-        self.assertEqual(str(Message(8, 8, b"12")), "code 0x8 2")
+        self.assertEqual(str(Message(8, 8, b"12")), "code 0x0008 2")
 
     def test_they_are_values(self):
         for item in self.ITEMS:

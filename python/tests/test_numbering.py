@@ -96,7 +96,7 @@ class TestPayloads(unittest.TestCase):
         for payload in (b"\n", b"\x22\x05a", b"\x12\x02\x1a\x05", b"\x10\x01", b"\xff"):
             with self.assertRaises(Malformed) as error:
                 numbering.read_payload(SCHEMA, payload)
-            self.assertEqual(str(error.exception), f"payload of {sized(payload)} is not well-formed")
+            self.assertEqual(str(error.exception), f"payload of {sized(payload)} is malformed")
             self.assertEqual((error.exception.argument, error.exception.value), ("payload", payload))
         for call in (numbering.read_payload, numbering.write_payload):
             for schema in (len(SCHEMA_NAMES), -1, 1 << 32, "Values"):
@@ -182,7 +182,7 @@ class TestSets(unittest.TestCase):
             self.assertEqual(str(found), f"renames: {found.text}")
         with self.assertRaises(NumberingError) as error:
             Numbering(SMALL, renames={"A=B": "Value"})
-        self.assertEqual(error.exception.text, "'A=B' is not the name of a message")
+        self.assertEqual(error.exception.text, '"A=B" is not the name of a message')
         for renames in (5, ["Value"], "Value=Value", {5: "Value"}, {"Value": b"Value"}):
             self.assertRaises(TypeError, Numbering, SMALL, renames=renames)
 
@@ -246,7 +246,7 @@ class TestSets(unittest.TestCase):
                 Numbering(SMALL).read_payload(SCHEMA, b"")
         with replaced("journal_numbering_text", returning(0, 3)), self.assertRaises(JournalError) as error:
             Numbering(SMALL)
-        text = "the library returned a numbering of the kind 3, which this module does not know"
+        text = "the library returned the kind of numbering 3, which this package does not know"
         self.assertEqual((type(error.exception), str(error.exception)), (JournalError, text))
 
 
@@ -315,7 +315,7 @@ class TestStreams(unittest.TestCase):
         numbering = Numbering(SMALL)
         with self.assertRaises(Malformed) as error:
             numbering.read_stream(8, OTHERS + framed(b"\n"))
-        text = "SetStateCommand at offset 17: payload of 1 byte is not well-formed"
+        text = "SetStateCommand at offset 17: payload of 1 byte is malformed"
         self.assertEqual(str(error.exception), text)
         self.assertEqual((error.exception.code, error.exception.offset), (SET_STATE_COMMAND, 17))
         for call in (numbering.read_stream, numbering.write_stream):
@@ -408,7 +408,7 @@ class TestReaders(unittest.TestCase):
         with self.assertRaises(Malformed) as error:
             for item in stream:
                 found.append(item.offset)
-        text = "SetStateCommand at offset 19: payload of 1 byte is not well-formed"
+        text = "SetStateCommand at offset 19: payload of 1 byte is malformed"
         self.assertEqual(str(error.exception), text)
         self.assertEqual((error.exception.code, error.exception.offset, found), (SET_STATE_COMMAND, 19, [0]))
         # the next loop goes on after it

@@ -125,7 +125,7 @@ class TestReading(unittest.TestCase):
             self.assertEqual((error.reason, error.offset, error.path), (reason, offset, path))
             self.assertEqual((error.call, error.argument, error.value), ("from_json", "json", text))
             size = len(text if isinstance(text, bytes) else text.encode("utf-8", "surrogatepass"))
-            self.assertEqual(str(error), f"json of {size} bytes: {why}")
+            self.assertEqual(str(error), f"JSON of {size} bytes: {why}")
             again = pickle.loads(pickle.dumps(error))
             self.assertEqual((again.reason, again.offset, again.path), (reason, offset, path))
 

@@ -91,7 +91,7 @@ class TestDecoding(unittest.TestCase):
         self.assertEqual(SetStateCommandMessage.decode(memoryview(b"")), SetStateCommandMessage())
 
     def test_what_is_malformed(self):
-        self.assertRaisesRegex(Malformed, "^payload of 1 byte is not well-formed$", Value.decode, b"\n")
+        self.assertRaisesRegex(Malformed, "^payload of 1 byte is malformed$", Value.decode, b"\n")
         self.assertRaises(TypeError, Value.decode, "text")
         self.assertIsNone(Message(8, CUSTOM_ENTRY, b"").message)
 
@@ -105,7 +105,7 @@ class TestDecoding(unittest.TestCase):
             return 1
 
         with replaced("journal_fields", one_field):
-            text = "the field 0 of Value, which this module does not know"
+            text = "the field 0 of Value, which this package does not know"
             self.assertRaisesRegex(JournalError, text, Value.decode, b"")
 
         def of_another_kind(*parameters):
@@ -113,14 +113,15 @@ class TestDecoding(unittest.TestCase):
             return 0
 
         with replaced("journal_payload_of_fields", of_another_kind):
-            text = "^the library returned a table of fields of the kind 10, which this module does not know$"
+            text = "^the library returned the kind of table 10, which this package does not know$"
             self.assertRaisesRegex(JournalError, text, Value(b"x").encode)
         for kept in (_records.schema_of, _items._class_of):
             kept.cache_clear()
             self.addCleanup(kept.cache_clear)
         with replaced("journal_schema", returning(len(RECORDS))), self.assertRaises(JournalError) as raised:
             Message(8, 0x7FFF, b"").message
-        self.assertRegex(str(raised.exception), "^the schema [0-9]+ is of no record that this package knows$")
+        text = f"the library returned the schema {len(RECORDS)}, which this package does not know"
+        self.assertEqual(str(raised.exception), text)
 
     def test_threads(self):
         payload = Future(waiting_signals=tuple(range(60)), nested_futures=(Future(),)).encode()
@@ -210,7 +211,7 @@ class TestValues(unittest.TestCase):
         self.assertIs(ErrorMessage.decode(ErrorMessage(behavior=1).encode()).behavior, ErrorBehavior.PAUSE)
         self.assertRaises(ValueError, CombinatorType, 1 << 31)
         for number in (1 << 31, (1 << 63) - 1, 1 << 63, (1 << 64) - (1 << 31), (1 << 64) - 1, 1 << 64):
-            with self.assertRaisesRegex(FieldError, r"^ErrorMessage\.behavior: out of range$"):
+            with self.assertRaisesRegex(FieldError, "^field behavior: out of range$"):
                 ErrorMessage(behavior=number).encode()
 
     def test_numbers_of_64_bits(self):
@@ -238,7 +239,7 @@ class TestFrames(unittest.TestCase):
         record = SuspensionMessageV6(waiting_completions=(1, 2))
         self.assertEqual(record.frame(6), bytes.fromhex("0001000000000004" "0a020102"))
         self.assertEqual(Message(6, SUSPENSION, record.encode()).message, record)
-        self.assertRaisesRegex(Unknown, "^there is no SuspensionMessageV6 at version 7$", record.frame, 7)
+        self.assertRaisesRegex(Unknown, "^protocol version 7 has no SuspensionMessageV6$", record.frame, 7)
         self.assertRaises(Unknown, record.frame, 4)
         later = SuspensionMessage.decode(b"").frame(6)
         self.assertEqual(later, SuspensionMessageV6().frame(6))
@@ -261,7 +262,7 @@ class TestWrongFields(unittest.TestCase):
                 record.encode()
             self.assertEqual((caught.exception.path, caught.exception.reason), (path, reason))
             why = {FieldReason.OUT_OF_RANGE: "out of range", FieldReason.NOT_UTF8: "not UTF-8"}[reason]
-            text = f"{type(record).__name__}.{path}: {why}"
+            text = f"field {path}: {why}"
             self.assertEqual((str(caught.exception), caught.exception.call), (text, "encode"))
             self.assertIsInstance(caught.exception, ValueError)
 

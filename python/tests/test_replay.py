@@ -193,7 +193,7 @@ class TestReplay(unittest.TestCase):
         replay = Replay(8, b"")
         # two calls have two structs of six numbers each, and the last one is that of the mismatch
         with replaced("journal_replay_finish", returning(1, 7, 0, 0, 0, 0, 0)):
-            with self.assertRaisesRegex(JournalError, "^the library returned a verdict of the kind 7, "):
+            with self.assertRaisesRegex(JournalError, "^the library returned the kind of verdict 7, "):
                 replay.finish()
         with replaced("journal_replay_check", returning(-99)):
             with self.assertRaisesRegex(JournalError, "^the library returned -99"):

@@ -202,7 +202,7 @@ class TestFeeding(unittest.TestCase):
                 with self.assertRaises(JournalError) as later:
                     next(iter(stream))
                 self.assertIs(type(later.exception), JournalError)
-                text = "the library returned an item of the kind 3, which this module does not know"
+                text = "the library returned the kind of item 3, which this package does not know"
                 self.assertEqual(str(later.exception), text)
         self.assertEqual(list(stream), EXPECTED)
 

@@ -147,7 +147,7 @@ class TestCompiled < Minitest::Test
       assert_raises(ArgumentError) { named.call(*given) }
     end
     [-1, 1000].each { |place| assert_raises(IndexError) { named.call(place, "name") } }
-    assert_error(Unknown, "name: code 1037 is not that of a notification") do
+    assert_error(Unknown, "name: unknown code 0x040d, or not of the kind that the call is for") do
       named.call(named::NOTIFICATION, "name", CODES.fetch(:call), "")
     end
     [[nil, nil], [8, "1"], [8, 1 << 32]].each do |arguments|

@@ -80,7 +80,7 @@ class TestCopies < Minitest::Test
       end
     end
     message = Pendratsoa::Message.new(6, 1, "")
-    assert_error(Pendratsoa::Unknown, "frame: there is no SuspensionMessageV6 at version 8") { message.frame(8) }
+    assert_error(Pendratsoa::Unknown, "frame: protocol version 8 has no SuspensionMessageV6") { message.frame(8) }
     assert_raises(TypeError) { message.append_frame(nil) }
   end
 

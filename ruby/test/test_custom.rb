@@ -66,7 +66,7 @@ class TestCustom < Minitest::Test
   end
 
   def test_a_pattern_does_not_pass_a_malformed_message_on
-    text = "SetStateCommand at offset 17: payload of 1 byte is not well-formed"
+    text = "SetStateCommand at offset 17: payload of 1 byte is malformed"
     _, item = items_of(INPUT, MALFORMED)
     [
       -> { item in Message[type: "SetStateCommand", message: { key: String }] },
@@ -90,7 +90,8 @@ class TestCustom < Minitest::Test
         expected ? assert_equal(expected, item.record(record)) : assert_nil(item.record(record))
       end
       [Value, Record, MessageRecord, String, "EndMessage", EndMessage.new, nil].each do |record|
-        text = "record: record must be the class of a message's record, not #{record.inspect}"
+        what = record.is_a?(Module) ? record : "an object of #{record.class}"
+        text = "record: record must be the class of a message's record, not #{what}"
         assert_error(TypeError, text) { item.record(record) }
       end
     end
@@ -130,7 +131,7 @@ class TestCustom < Minitest::Test
         "frame" => -> { item.frame },
         "append_frame" => -> { item.append_frame(out) }
       }.each do |call, read|
-        error = assert_error(Malformed, "SetStateCommand#{where}: payload of 1 byte is not well-formed", &read)
+        error = assert_error(Malformed, "SetStateCommand#{where}: payload of 1 byte is malformed", &read)
         assert_equal [call, :payload, "\n"], [error.call, error.argument, error.value]
         offset ? assert_equal(offset, error.offset) : assert_nil(error.offset)
         assert_equal CODES[:set_state], error.code

@@ -79,20 +79,22 @@ class TestNames < Minitest::Test
   end
 
   def test_what_does_not_exist
+    or_not = ", or not of the kind that the call is for"
     {
-      "type_name: code 8 is not that of a type" => -> { Pendratsoa.type_name(8) },
-      "type_name: code 65536 is not that of a type" => -> { Pendratsoa.type_name(1 << 16) },
-      'type_code: unknown type name "Sleep"' => -> { Pendratsoa.type_code("Sleep") },
+      "type_name: unknown code 0x0008#{or_not}" => -> { Pendratsoa.type_name(8) },
+      "type_name: unknown code 0x10000#{or_not}" => -> { Pendratsoa.type_name(1 << 16) },
+      "type_name: unknown code -1#{or_not}" => -> { Pendratsoa.type_name(-1) },
+      'type_code: unknown type "Sleep"' => -> { Pendratsoa.type_code("Sleep") },
       "schema: unknown protocol version 4 (5 to 9)" => -> { Pendratsoa.schema(4, 8) },
-      "schema: code 64513 is not that of a named type" => -> { Pendratsoa.schema(8, 64_513) },
-      "header: code 8 is not that of a type" => -> { Pendratsoa.header(8, 8, 0) },
+      "schema: unknown code 0xfc01#{or_not}" => -> { Pendratsoa.schema(8, 64_513) },
+      "header: unknown code 0x0008#{or_not}" => -> { Pendratsoa.header(8, 8, 0) },
       "frame: unknown protocol version 10 (5 to 9)" => -> { Pendratsoa.frame(10, 0, "") },
-      "frame: code 64513 is not that of a named type" => -> { Pendratsoa.frame(8, 64_513, "") },
+      "frame: unknown code 0xfc01#{or_not}" => -> { Pendratsoa.frame(8, 64_513, "") },
       "canonical: unknown schema #{Pendratsoa::SCHEMAS} (0 to #{Pendratsoa::SCHEMAS - 1})" =>
         -> { Pendratsoa.canonical(Pendratsoa::SCHEMAS, "") },
-      "notification: code 1037 is not that of a notification" => -> { Pendratsoa.notification(1037, "") },
-      "header_eq?: code 0 is not that of a command" => -> { Pendratsoa.header_eq?(0, "", "") },
-      "difference: code 0 is not that of a command" => -> { Pendratsoa.difference(0, "", "") },
+      "notification: unknown code 0x040d#{or_not}" => -> { Pendratsoa.notification(1037, "") },
+      "header_eq?: unknown code 0x0000#{or_not}" => -> { Pendratsoa.header_eq?(0, "", "") },
+      "difference: unknown code 0x0000#{or_not}" => -> { Pendratsoa.difference(0, "", "") },
       "compare_journals: unknown protocol version 4 (5 to 9)" => -> { Pendratsoa.compare_journals(4, "", "") }
     }.each { |text, call| assert_error(Pendratsoa::Unknown, text, &call) }
   end
@@ -147,7 +149,8 @@ class TestPayloads < Minitest::Test
 
   def test_lengths_of_a_header
     assert_equal unhex("040d0000ffffffff"), Pendratsoa.header(8, CODES[:call], (1 << 32) - 1)
-    assert_error(Pendratsoa::TooLong, "header: payload_length 4294967296 is more than 4,294,967,295") do
+    text = "header: payload of 4294967296 bytes is too long: more than 4,294,967,295 bytes"
+    assert_error(Pendratsoa::TooLong, text) do
       Pendratsoa.header(8, CODES[:call], 1 << 32)
     end
     assert_error(ArgumentError, "header: payload_length -1 is negative") { Pendratsoa.header(8, CODES[:call], -1) }
@@ -155,17 +158,17 @@ class TestPayloads < Minitest::Test
   end
 
   def test_malformed
-    error = assert_error(Pendratsoa::Malformed, "canonical: payload of 1 byte is not well-formed") do
+    error = assert_error(Pendratsoa::Malformed, "canonical: payload of 1 byte is malformed") do
       Pendratsoa.canonical("ErrorMessage", "\x12")
     end
     assert_equal ["canonical", :payload, "\x12"], [error.call, error.argument, error.value]
-    text = "to_json: payload of 33 bytes is not well-formed"
+    text = "to_json: payload of 33 bytes is malformed"
     assert_error(Pendratsoa::Malformed, text) { Pendratsoa.to_json(13, "\x0e" * 33) }
-    text = "merge: first payload of 1 byte is not well-formed"
+    text = "merge: first payload of 1 byte is malformed"
     assert_error(Pendratsoa::Malformed, text) { Pendratsoa.merge(13, "\x12", "") }
-    text = "merge: second payload of 1 byte is not well-formed"
+    text = "merge: second payload of 1 byte is malformed"
     assert_error(Pendratsoa::Malformed, text) { Pendratsoa.merge(13, "", "\x12") }
-    assert_error(Pendratsoa::Malformed, "difference: second payload of 1 byte is not well-formed") do
+    assert_error(Pendratsoa::Malformed, "difference: second payload of 1 byte is malformed") do
       Pendratsoa.difference(CODES[:set_state], "", "\n")
     end
   end
@@ -221,7 +224,7 @@ class TestReading < Minitest::Test
       [SLEEP, '{"wakeUpTime":-1}', :out_of_range, nil, "wakeUpTime", "wakeUpTime: out of range"],
       ["Value", '{"content":"a"}', :not_base64, nil, "content", "content: not base64"]
     ].each do |schema, json, reason, offset, path, why|
-      text = "from_json: json of #{json.bytesize} bytes: #{why}"
+      text = "from_json: JSON of #{json.bytesize} bytes: #{why}"
       error = assert_error(Pendratsoa::JsonError, text) { Pendratsoa.from_json(schema, json) }
       offset ? assert_equal(offset, error.offset) : assert_nil(error.offset)
       assert_equal [reason, path, "from_json", :json, json],

@@ -151,7 +151,7 @@ class TestLaterLibrary < Minitest::Test
 
   def test_another_error
     returning(-12) do
-      assert_error(Pendratsoa::Error, "the library returned -12, which this gem does not know") do
+      assert_error(Pendratsoa::Error, "the library returned the error -12, which this package does not know") do
         Pendratsoa.canonical(13, "")
       end
       assert_raises(Pendratsoa::Error) { Pendratsoa::Stream.new }
@@ -160,10 +160,10 @@ class TestLaterLibrary < Minitest::Test
 
   def test_errors_of_the_whole_call
     returning(-2) do
-      assert_error(Pendratsoa::OutOfMemory, "an allocation failed") { Pendratsoa.merge(13, "", "") }
+      assert_error(Pendratsoa::OutOfMemory, "out of memory") { Pendratsoa.merge(13, "", "") }
     end
     returning(-4) do
-      text = "the result would have more than 4,294,967,295 bytes"
+      text = "payload is too long: more than 4,294,967,295 bytes"
       assert_error(Pendratsoa::TooLong, text) { Pendratsoa.merge(13, "", "") }
     end
   end
@@ -171,7 +171,7 @@ class TestLaterLibrary < Minitest::Test
   def test_another_kind
     stream = Pendratsoa::Stream.new.feed("12345678")
     returning(0, [3, 0, 0, 0, 8, 8]) do
-      text = "the library returned an item of the kind 3, which this gem does not know"
+      text = "the library returned the kind of item 3, which this package does not know"
       2.times { assert_error(Pendratsoa::Error, text) { stream.first } }
     end
     assert_equal 8, stream.rest

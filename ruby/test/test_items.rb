@@ -23,11 +23,10 @@ class TestItems < Minitest::Test
   def test_errors_of_the_code_of_a_message
     custom = Pendratsoa::Message.of(CODES[:custom_entry])
     {
-      "code 64513 is not that of a named type" => [custom, %i[schema json canonical frame]],
-      "code 64513 is not that of a notification" => [custom, %i[notification]],
-      "code 8 is not that of a type" => [Pendratsoa::Message.new(8, 8, ""), %i[type]],
-      "code 8 is not that of a named type" => [Pendratsoa::Message.new(8, 8, ""), %i[schema message]]
-    }.each do |text, (message, calls)|
+      "0xfc01" => [custom, %i[schema json canonical frame notification]],
+      "0x0008" => [Pendratsoa::Message.new(8, 8, ""), %i[type schema message]]
+    }.each do |digits, (message, calls)|
+      text = "unknown code #{digits}, or not of the kind that the call is for"
       calls.each do |call|
         error = assert_error(Pendratsoa::Unknown, text) { message.public_send(call) }
         assert_equal [:code, message.code], [error.argument, error.value]

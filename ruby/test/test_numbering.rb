@@ -66,7 +66,7 @@ class TestNumbering < Minitest::Test
 
   def test_what_is_no_payload
     ["\n", "\x22\x05a", "\x12\x02\x1a\x05", "\x10\x01", "\xff"].each do |payload|
-      text = "read_payload: payload of #{payload.bytesize} byte#{"s" if payload.bytesize > 1} is not well-formed"
+      text = "read_payload: payload of #{payload.bytesize} byte#{"s" if payload.bytesize > 1} is malformed"
       error = assert_error(Pendratsoa::Malformed, text) { small.read_payload(SCHEMA, payload) }
       assert_equal [:payload, payload], [error.argument, error.value]
     end
@@ -153,7 +153,7 @@ class TestNumbering < Minitest::Test
       assert_equal ["Numbering", :descriptor_set, set], [error.call, error.argument, error.value]
       assert_equal :no_set, error.reason
       assert_match(/\S/, error.text)
-      assert_equal "Numbering: descriptor_set: #{error.text}", error.message
+      assert_equal "Numbering: descriptor set: #{error.text}", error.message
     end
     error = assert_raises(Pendratsoa::NumberingError) { Pendratsoa::Numbering.new(twice) }
     assert_equal "a.proto: a.Value.other: number of a later field", error.text
@@ -205,7 +205,7 @@ class TestNumbering < Minitest::Test
   end
 
   def test_errors_of_streams
-    text = "SetStateCommand at offset 17: payload of 1 byte is not well-formed"
+    text = "SetStateCommand at offset 17: payload of 1 byte is malformed"
     error = assert_error(Pendratsoa::Malformed, text) { small.read_stream(8, OTHERS + framed("\n")) }
     assert_equal [CODES[:set_state], 17], [error.code, error.offset]
     %i[read_stream write_stream].each do |call|
@@ -275,7 +275,7 @@ class TestNumbering < Minitest::Test
   def test_a_payload_that_is_none_in_a_stream
     stream = Pendratsoa::Stream.new(numbering: small).feed(framed(THEIRS) + framed("\n") + framed(THEIRS))
     found = []
-    text = "SetStateCommand at offset 19: payload of 1 byte is not well-formed"
+    text = "SetStateCommand at offset 19: payload of 1 byte is malformed"
     error = assert_error(Pendratsoa::Malformed, text) { stream.each { |item| found << item.offset } }
     assert_equal [CODES[:set_state], 19, [0]], [error.code, error.offset, found]
     # the next loop goes on after it

@@ -26,6 +26,11 @@ class TestPackages < Minitest::Test
   TEXTS = %w[debug_id scope target_invocation_id name entry_name].freeze
   ONEOFS = { signal_id: %w[idx name], result: %w[void value failure] }.freeze
 
+  def setup
+    # the texts of the errors with which cases ended
+    @texts = []
+  end
+
   def test_the_cases
     assert_operator CASES.length, :>, 100
     CASES.each do |line|
@@ -49,7 +54,7 @@ class TestPackages < Minitest::Test
     message = Pendratsoa::Message.new(8, CODES[:set_state], unhex("0a0561"))
     others = [Pendratsoa::UnknownCode.new(8, 8, 0), Pendratsoa::Skipped.new(9, 8, 0, "")]
     assert_equal [nil] * 3, [message, *others].map(&:offset)
-    text = "SetStateCommand: payload of 3 bytes is not well-formed"
+    text = "SetStateCommand: payload of 3 bytes is malformed"
     error = assert_error(Pendratsoa::Malformed, text) { message.json }
     assert_equal [CODES[:set_state], nil], [error.code, error.offset]
   end
@@ -73,6 +78,20 @@ class TestPackages < Minitest::Test
     nil
   rescue Pendratsoa::Error => error
     error
+  end
+
+  # What the error says with which a case ends, in whatever chunks a stream comes.
+  def text_result(kind, *words)
+    @texts = []
+    send("#{kind}_result", *words)
+    assert_equal 1, @texts.uniq.length, @texts.inspect
+    @texts.first
+  end
+
+  # The result of a case that ends with an error, whose text is noted without the name of the call.
+  def noted(error, result)
+    @texts << error.message.delete_prefix("#{error.call}: ")
+    result
   end
 
   # The items of a stream that is there as a whole.
@@ -132,26 +151,12 @@ class TestPackages < Minitest::Test
       assert_same(ended, raised { stream.finish })
       assert_same(ended, raised { stream.first })
       assert_same(ended, raised { stream.feed("x") })
-      "too_long #{ended.offset} #{name_of(ended.code)} #{ended.length}"
+      noted(ended, "too_long #{ended.offset} #{name_of(ended.code)} #{ended.length}")
     when Pendratsoa::Incomplete
       assert_equal ended.message, raised { stream.finish }.message
-      text = "the stream ended within #{item_of(ended.code)} at offset #{ended.offset}, "
-      assert_operator ended.message, :start_with?, text
-      "incomplete #{ended.offset} #{ended.rest} #{name_of(ended.code)}"
+      noted(ended, "incomplete #{ended.offset} #{ended.rest} #{name_of(ended.code)}")
     else raise ended
     end
-  end
-
-  # An item as a text has it.
-  def item_of(code)
-    return "an item" unless code
-
-    name_of(code) == "-" ? format("code 0x%04x", code) : name_of(code)
-  end
-
-  def too_long_result(version, limit, word)
-    stream = Pendratsoa::Stream.new(version: Integer(version), max_message_size: Integer(limit)).feed(bytes_of(word))
-    assert_raises(Pendratsoa::MessageTooLong) { stream.to_a }.message
   end
 
   def read_result(call, version, word)
@@ -180,12 +185,11 @@ class TestPackages < Minitest::Test
   # What a block returns that reads a message. An error of its payload has its type and its offset.
   def reading(item)
     yield
-  rescue Pendratsoa::Unknown
-    "unknown"
+  rescue Pendratsoa::Unknown => error
+    noted(error, "unknown")
   rescue Pendratsoa::Error => error
     assert_equal [item.code, item.offset], [error.code, error.offset]
-    assert_operator error.message, :start_with?, "#{item.type} at offset #{item.offset}: payload "
-    "#{KINDS.fetch(error.class)} #{name_of(error.code)} #{error.offset}"
+    noted(error, "#{KINDS.fetch(error.class)} #{name_of(error.code)} #{error.offset}")
   end
 
   def compare_result(version, ignore, *journals)
@@ -241,16 +245,16 @@ class TestPackages < Minitest::Test
     frame = made.frame(Integer(version))
     assert_equal frame, Pendratsoa::Message.of_record(made, version: Integer(version)).bytes
     frame.unpack1("H*")
-  rescue Pendratsoa::Unknown
-    "unknown"
+  rescue Pendratsoa::Unknown => error
+    noted(error, "unknown")
   rescue Pendratsoa::FieldError => error
-    "#{error.reason} #{error.path}"
+    noted(error, "#{error.reason} #{error.path}")
   end
 
   def message_result(version, name)
     Pendratsoa::Message.of_record(Pendratsoa.const_get(name).new, version: Integer(version)).to_s
-  rescue Pendratsoa::Unknown
-    "unknown"
+  rescue Pendratsoa::Unknown => error
+    noted(error, "unknown")
   end
 
   def new_result(version, code, word)
@@ -259,8 +263,8 @@ class TestPackages < Minitest::Test
     assert_equal given, [message.version, message.code, message.payload]
     assert_equal [message], items_of(version, word_of(message.bytes))
     "#{message}, #{word_of(message.bytes)}"
-  rescue Pendratsoa::Unknown
-    "unknown"
+  rescue Pendratsoa::Unknown => error
+    noted(error, "unknown")
   end
 
   # The attribute of a record that has a field, or a member of a oneof.
@@ -298,8 +302,8 @@ class TestPackages < Minitest::Test
     return "-" if found.empty?
 
     found.map { |field, value| "#{member_of(field, value)}=#{word_of_field(value)}" }.join(", ")
-  rescue Pendratsoa::Malformed
-    "malformed"
+  rescue Pendratsoa::Malformed => error
+    noted(error, "malformed")
   end
 
   # The name of a field, or of a member of a oneof.
@@ -328,10 +332,10 @@ class TestPackages < Minitest::Test
     message = Pendratsoa::Message.from_json(type, bytes_of(word), version: Integer(version))
     assert_equal [Integer(version), type], [message.version, message.type]
     word_of(message.payload)
-  rescue Pendratsoa::Unknown
-    "unknown"
+  rescue Pendratsoa::Unknown => error
+    noted(error, "unknown")
   rescue Pendratsoa::JsonError => error
-    "#{error.reason} #{error.offset || error.path}".rstrip
+    noted(error, "#{error.reason} #{error.offset || error.path}".rstrip)
   end
 
   def set_of_numbering(sets, name, renames, word)
@@ -344,7 +348,7 @@ class TestPackages < Minitest::Test
     "ok"
   rescue Pendratsoa::NumberingError => error
     assert_equal({ no_set: :descriptor_set, no_rename: :renames }.fetch(error.reason), error.argument)
-    assert_equal "Numbering: #{error.argument}: #{error.text}", error.message
+    assert_equal "Numbering: #{error.argument.name.tr("_", " ")}: #{error.text}", error.message
     "#{error.reason} #{word_of(error.text)}"
   end
 
@@ -398,9 +402,8 @@ class TestPackages < Minitest::Test
     return "known" unless error
 
     assert_instance_of Pendratsoa::Unknown, error
-    said, _, meant = error.message.partition("; did you mean ")
-    assert_operator said, :end_with?, name.inspect
-    ["unknown", meant.delete('"?')].reject(&:empty?).join(" ")
+    meant = error.message.partition("; did you mean ").last
+    noted(error, ["unknown", meant.delete('"?')].reject(&:empty?).join(" "))
   end
 
   def number_result(what, number)
@@ -408,6 +411,6 @@ class TestPackages < Minitest::Test
     return "known" unless error
 
     assert_instance_of Pendratsoa::Unknown, error
-    "unknown"
+    noted(error, "unknown")
   end
 end

@@ -101,7 +101,7 @@ class TestRecords < Minitest::Test
     assert_equal [1, 2, 3], Pendratsoa::SuspensionMessageV6.decode(unhex("08010a020203")).waiting_completions
     keys = Pendratsoa::StateKeys.new(keys: Array.new(5000, &:to_s))
     assert_equal keys, Pendratsoa::StateKeys.decode(keys.encode)
-    text = "decode: payload of 1 byte is not well-formed"
+    text = "decode: payload of 1 byte is malformed"
     assert_error(Pendratsoa::Malformed, text) { Pendratsoa::Value.decode("\n") }
     assert_nil Pendratsoa::Message.new(8, CODES[:custom_entry], "").message
   end
@@ -138,7 +138,8 @@ class TestRecords < Minitest::Test
     }.each do |record, path|
       error = assert_raises(Pendratsoa::FieldError) { record.encode }
       assert_equal path, error.path
-      assert_equal "encode: #{path}: #{error.reason.to_s.tr("_", " ")}", error.message
+      why = { out_of_range: "out of range", not_utf8: "not UTF-8" }.fetch(error.reason)
+      assert_equal "encode: field #{path}: #{why}", error.message
     end
     {
       Pendratsoa::Failure.new(code: "1") => "code must be an Integer, not String",

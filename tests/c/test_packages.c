@@ -4,9 +4,9 @@
  *
  * SCHEMAS is a file with the names of the schemas, one per line, in the order of their numbers. conformance/README.md
  * specifies a line. Streams are read by pendratsoa_reader.h, records by pendratsoa_messages.h. C has no call for the
- * lines of the kinds `as` and `message`, and no text for those of the kinds `too_long` and `name`; a line of no kind
- * fails. An arena names a field by its record and its number, so a path is looked up here. The last line is 'N passed,
- * M failed'.
+ * lines of the kinds `as` and `message`, and no text for those of the kinds `text` and `name`; a line of no kind fails.
+ * An arena names a field by its record and its number, so a path is looked up here. The last line is 'N passed, M
+ * failed'.
  */
 #define _POSIX_C_SOURCE 200809L
 #include <pendratsoa_messages.h>
