@@ -189,7 +189,7 @@ test('options of the wrong kind, and unknown names in them', () => {
       assert.throws(() => call(options), {
         name: 'TypeError',
         code: 'ERR_INVALID_ARG_TYPE',
-        message: `options has 'max_message_size', and may only have ${names.map((name) => `'${name}'`).join(' and ')}`,
+        message: `options has "max_message_size", and may only have ${names.map((name) => `"${name}"`).join(' and ')}`,
       });
     }
   }

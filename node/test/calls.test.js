@@ -182,7 +182,7 @@ test('JSON that is rejected', () => {
         assert.equal(error.code, 'JOURNAL_JSON_ERROR');
         assert.deepEqual([error.reason, error.offset, error.path], [reason, offset, path]);
         assert.deepEqual([error.call, error.argument, error.value], ['fromJson', 'json', json]);
-        assert.equal(error.message, `fromJson: json of ${Buffer.byteLength(json)} bytes: ${why}`);
+        assert.equal(error.message, `fromJson: JSON of ${Buffer.byteLength(json)} bytes: ${why}`);
         return true;
       },
     );
@@ -376,7 +376,7 @@ test('a malformed payload is named', () => {
       code: 'JOURNAL_MALFORMED',
       argument,
       value: bad,
-      message: new RegExp(`^\\w+: ${argument} of 1 byte: not well-formed for its schema$`),
+      message: new RegExp(`^\\w+: (${argument} )?payload of 1 byte is malformed$`),
     });
   }
 });
@@ -413,10 +413,10 @@ test('what does not exist is named', () => {
   }
   const schemas = pendratsoa.schemaNames.length;
   for (const [call, message] of [
-    [() => pendratsoa.canonical('Voids', none), "canonical: unknown schema 'Voids'"],
+    [() => pendratsoa.canonical('Voids', none), 'canonical: unknown schema "Voids"'],
     [() => pendratsoa.canonical(schemas, none), `canonical: unknown schema ${schemas} (0 to ${schemas - 1})`],
     [() => pendratsoa.schema(4, 0), 'schema: unknown protocol version 4 (5 to 9)'],
-    [() => pendratsoa.typeCode('Sleep'), "typeCode: unknown name 'Sleep'"],
+    [() => pendratsoa.typeCode('Sleep'), 'typeCode: unknown type "Sleep"'],
     [
       () => pendratsoa.headerEq(CALL_COMPLETION, none, none),
       'headerEq: unknown code 0x800d, or not of the kind that the call is for',
@@ -498,7 +498,7 @@ test('lengths of a payload', () => {
       argument: 'payloadLength',
       value: length,
       call: 'header',
-      message: `header: payloadLength ${length}: more than 4,294,967,295 bytes`,
+      message: `header: payload of ${length} bytes is too long: more than 4,294,967,295 bytes`,
     });
   }
   for (const length of [-1, 0.5, NaN, -Infinity, -(2 ** 32)]) {

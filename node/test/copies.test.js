@@ -103,7 +103,7 @@ test('suspensions of each version', () => {
     }
   }
   const message = new Message(6, 1, hex(''));
-  assert.throws(() => message.frame(8), { message: 'frame: there is no SuspensionMessageV6 at version 8' });
+  assert.throws(() => message.frame(8), { message: 'frame: protocol version 8 has no SuspensionMessageV6' });
   assert.throws(() => message.frameInto([]), TypeError);
 });
 

@@ -17,7 +17,7 @@ function notKnown(call, what) {
   return (error) => {
     assert.equal(Object.getPrototypeOf(error), JournalError.prototype);
     assert.equal(error.code, 'JOURNAL_ERROR');
-    assert.equal(error.message, `the library returned the ${what}, which this module does not know`);
+    assert.equal(error.message, `the library returned the ${what}, which this package does not know`);
     assert.equal(error.call, call);
     return true;
   };
@@ -34,7 +34,7 @@ test('errors of other numbers', () => {
 });
 
 test('errors that need little memory, or much', () => {
-  const outOfMemory = { name: 'OutOfMemory', code: 'JOURNAL_OUT_OF_MEMORY', message: /^\w+: an allocation failed$/ };
+  const outOfMemory = { name: 'OutOfMemory', code: 'JOURNAL_OUT_OF_MEMORY', message: /^\w+: out of memory$/ };
   assert.throws(() => pendratsoa.typeCode('Start'), outOfMemory);
   assert.throws(() => pendratsoa.isWellFormed(0, NONE), outOfMemory);
   assert.throws(() => pendratsoa.toJson(0, NONE), outOfMemory);
@@ -45,7 +45,7 @@ test('errors that need little memory, or much', () => {
     name: 'TooLong',
     code: 'JOURNAL_TOO_LONG',
     argument: 'payload',
-    message: 'frame: payload of 0 bytes: more than 4,294,967,295 bytes',
+    message: 'frame: payload is too long: more than 4,294,967,295 bytes',
   });
 });
 
@@ -75,7 +75,7 @@ test('tables of other kinds, and of other fields', () => {
   const write = (kind) => () => pendratsoa.writeRecord('Value', { content: Uint8Array.of(kind) });
   assert.throws(write(3), { name: 'FieldError', reason: 'severalMembers', path: 'content' });
   assert.throws(write(10), notKnown('payload', 'kind of table 10'));
-  assert.throws(() => pendratsoa.readRecord('Value', NONE), notKnown('readRecord', 'field of Value 9999'));
+  assert.throws(() => pendratsoa.readRecord('Value', NONE), notKnown('readRecord', 'field 9999 of Value'));
 });
 
 test('JSON texts of other kinds', () => {
@@ -84,7 +84,7 @@ test('JSON texts of other kinds', () => {
   assert.throws(() => pendratsoa.fromJson(0, ''), {
     name: 'TooLong',
     argument: 'json',
-    message: 'fromJson: json of 0 bytes: more than 4,294,967,295 bytes',
+    message: 'fromJson: payload is too long: more than 4,294,967,295 bytes',
   });
 });
 

@@ -111,7 +111,7 @@ test('streams are read and written', () => {
     name: 'Malformed',
     typeCode: 0x0403,
     offset: 8,
-    message: 'SetStateCommand at offset 8: payload of 1 byte: not well-formed for its schema',
+    message: 'SetStateCommand at offset 8: payload of 1 byte is malformed',
   });
 });
 

@@ -138,13 +138,23 @@ function isDefault(value) {
   return value === undefined || value.length === 0 || value === 0 || value === 0n || value === false;
 }
 
+// The texts of the errors with which cases ended.
+let noted = [];
+
+/** The result of a case that ends with an error, whose text is noted without the name of the call. */
+function endsWith(error, result) {
+  const { call, message } = error;
+  noted.push(message.startsWith(`${call}: `) ? message.slice(`${call}: `.length) : message);
+  return result;
+}
+
 /** How a stream ends. */
 function endOf(error) {
   if (error instanceof Incomplete) {
-    return `incomplete ${error.offset} ${error.rest} ${nameOf(error.typeCode)}`;
+    return endsWith(error, `incomplete ${error.offset} ${error.rest} ${nameOf(error.typeCode)}`);
   }
   if (error instanceof MessageTooLong) {
-    return `too_long ${error.offset} ${nameOf(error.typeCode)} ${error.length}`;
+    return endsWith(error, `too_long ${error.offset} ${nameOf(error.typeCode)} ${error.length}`);
   }
   throw error;
 }
@@ -234,15 +244,14 @@ const READS = {
 /** What reading a message throws, as a result. */
 function failure(error, message) {
   if (error instanceof Unknown) {
-    return 'unknown';
+    return endsWith(error, 'unknown');
   }
   const kind = [Malformed, NoId, NoResult].find((Class) => error instanceof Class);
   if (kind === undefined) {
     throw error;
   }
   assert.equal(error.typeCode, message.code);
-  assert.ok(error.message.startsWith(`${message.type} at offset ${message.offset}: `), error.message);
-  return `${snake(kind.name).slice(1)} ${nameOf(error.typeCode)} ${error.offset}`;
+  return endsWith(error, `${snake(kind.name).slice(1)} ${nameOf(error.typeCode)} ${error.offset}`);
 }
 
 const KINDS = {
@@ -258,12 +267,13 @@ const KINDS = {
     return found;
   },
 
-  too_long(version, limit, word) {
-    const stream = new Stream(Number(version), { maxMessageSize: Number(limit) });
-    stream.feed(bytesOf(word));
-    const error = thrown(() => [...stream]);
-    assert.ok(error instanceof MessageTooLong, `${error}`);
-    return error.message;
+  /** What the error says with which a case ends, in whatever chunks a stream comes. */
+  async text(kind, ...words) {
+    noted = [];
+    await KINDS[kind](...words);
+    const [text, ...others] = new Set(noted);
+    assert.deepEqual(others, []);
+    return text;
   },
 
   read(call, version, word) {
@@ -338,10 +348,10 @@ const KINDS = {
       return digits(Message.of(name.replace(/Message$/, ''), recordOf(name, words), Number(version)).bytes);
     } catch (error) {
       if (error instanceof Unknown) {
-        return 'unknown';
+        return endsWith(error, 'unknown');
       }
       assert.ok(error instanceof FieldError, `${error}`);
-      return `${snake(error.reason)} ${snake(error.path)}`;
+      return endsWith(error, `${snake(error.reason)} ${snake(error.path)}`);
     }
   },
 
@@ -350,7 +360,7 @@ const KINDS = {
       return String(Message.of(name.replace(/Message(V6)?$/, ''), {}, Number(version)));
     } catch (error) {
       assert.ok(error instanceof Unknown, `${error}`);
-      return 'unknown';
+      return endsWith(error, 'unknown');
     }
   },
 
@@ -362,7 +372,7 @@ const KINDS = {
     });
     if (error !== undefined) {
       assert.ok(error instanceof Unknown, `${error}`);
-      return 'unknown';
+      return endsWith(error, 'unknown');
     }
     const digitsOfAll = digits(message.bytes);
     assert.deepEqual([message.version, message.code, message.payload], given);
@@ -375,7 +385,7 @@ const KINDS = {
       return fieldsOf(readRecord(name, bytesOf(word))).join(', ') || '-';
     } catch (error) {
       assert.ok(error instanceof Malformed, `${error}`);
-      return 'malformed';
+      return endsWith(error, 'malformed');
     }
   },
 
@@ -386,10 +396,10 @@ const KINDS = {
       return digits(message.payload) || '-';
     } catch (error) {
       if (error instanceof Unknown) {
-        return 'unknown';
+        return endsWith(error, 'unknown');
       }
       assert.ok(error instanceof JsonError, `${error}`);
-      return `${snake(error.reason)} ${error.offset ?? error.path}`.trimEnd();
+      return endsWith(error, `${snake(error.reason)} ${error.offset ?? error.path}`.trimEnd());
     }
   },
 
@@ -399,9 +409,8 @@ const KINDS = {
       return 'known';
     }
     assert.ok(error instanceof Unknown, `${error}`);
-    const [said, meant] = error.message.split('; did you mean ');
-    assert.ok(said.endsWith(`'${name}'`), `${error}`);
-    return meant === undefined ? 'unknown' : `unknown ${meant.replace(/['?]/g, '')}`;
+    const [, meant] = error.message.split('; did you mean ');
+    return endsWith(error, meant === undefined ? 'unknown' : `unknown ${meant.replace(/["?]/g, '')}`);
   },
 
   limit(text) {
@@ -419,7 +428,7 @@ const KINDS = {
     };
     const error = thrown(calls[what]);
     assert.ok(error === undefined || error instanceof Unknown, `${error}`);
-    return error === undefined ? 'known' : 'unknown';
+    return error === undefined ? 'known' : endsWith(error, 'unknown');
   },
 };
 
@@ -483,6 +492,8 @@ test('the cases of numberings', () => {
         return 'ok';
       } catch (error) {
         assert.ok(error instanceof NumberingError, error.stack);
+        const argument = error.reason === 'noSet' ? 'descriptor set' : 'renames';
+        assert.equal(error.message, `Numbering: ${argument}: ${error.text}`);
         return `${snake(error.reason)} ${wordOf(error.text)}`;
       }
     },
@@ -526,7 +537,7 @@ test('items that came in no stream', () => {
     argument: 'payload',
     typeCode: 0x0403,
     offset: undefined,
-    message: 'SetStateCommand: payload of 3 bytes: not well-formed for its schema',
+    message: 'SetStateCommand: payload of 3 bytes is malformed',
   });
 });
 
@@ -540,8 +551,8 @@ test('the name of a record', () => {
     }
     assert.throws(() => item.record('SetStateCommand'), {
       message:
-        "name is 'SetStateCommand', and has to be the name of a message's record; " +
-        "did you mean 'SetStateCommandMessage'?",
+        'name is "SetStateCommand", and has to be the name of a message\'s record; ' +
+        'did you mean "SetStateCommandMessage"?',
     });
   }
 });

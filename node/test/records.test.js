@@ -188,7 +188,6 @@ test('objects of a class that have fields, and of no class', () => {
 
 test('a custom entry has no frame of its own', () => {
   const custom = new Message(8, 0xfc01, hex('ff'));
-  const said = 'a custom entry has no frame of its own, and `bytes` of its message has it as received';
   // the code is not an argument of a method
   for (const [call, begin, make] of [
     ['frame', '', () => custom.frame()],
@@ -199,7 +198,8 @@ test('a custom entry has no frame of its own', () => {
     assert.throws(make, (error) => {
       assert.ok(error instanceof Unknown);
       assert.equal(error.call, call);
-      assert.equal(error.message, `${begin}unknown code 0x${error.value.toString(16).padStart(4, '0')}: ${said}`);
+      const code = `unknown code 0x${error.value.toString(16).padStart(4, '0')}`;
+      assert.equal(error.message, `${begin}${code}, or not of the kind that the call is for`);
       return true;
     });
   }

@@ -289,7 +289,7 @@ test('a source that ends within an item', async () => {
       call: 'items',
       offset: 25,
       typeCode: 0x0400,
-      message: 'the source ended within InputCommand at offset 25, after 8 bytes of it',
+      message: 'the stream ended within InputCommand at offset 25, after 8 bytes of it',
     },
   );
   assert.deepEqual(found, ITEMS);
@@ -300,7 +300,7 @@ test('a stream that ends within the header of an item', () => {
     ['04', undefined, 'an item', '1 byte'],
     ['0403', 0x0403, 'SetStateCommand', '2 bytes'],
     ['040300', 0x0403, 'SetStateCommand', '3 bytes'],
-    ['00080000000000', 8, 'code 0x8', '7 bytes'],
+    ['00080000000000', 8, 'code 0x0008', '7 bytes'],
   ]) {
     const stream = new Stream();
     stream.feed(joined(INPUT, hex(rest)));
