@@ -45,11 +45,11 @@ func TestCommandsThatAreNone(t *testing.T) {
 	_, err := HeaderEq(CodeCallCompletionNotification, good, bad, false)
 	wantError(t, err, ErrUnknown, "pendratsoa: HeaderEq: unknown code 0x800d, or not of the kind that the call is for")
 	_, err = HeaderEq(CodeSetStateCommand, good, bad, false)
-	wantError(t, err, ErrMalformed, "pendratsoa: HeaderEq: second of 1 byte: not well-formed for its schema")
+	wantError(t, err, ErrMalformed, "pendratsoa: HeaderEq: second payload of 1 byte is malformed")
 	_, err = Difference(0xfc01, good, good)
 	wantError(t, err, ErrUnknown, "pendratsoa: Difference: unknown code 0xfc01, or not of the kind that the call is for")
 	_, err = Difference(CodeSetStateCommand, bad, good)
-	wantError(t, err, ErrMalformed, "pendratsoa: Difference: first of 1 byte: not well-formed for its schema")
+	wantError(t, err, ErrMalformed, "pendratsoa: Difference: first payload of 1 byte is malformed")
 }
 
 func TestJournals(t *testing.T) {

@@ -87,8 +87,8 @@ type MessageError struct {
 	Err *Error
 }
 
-// Error returns a text as "pendratsoa: Message.JSON: SetStateCommand at offset 17: payload of 3 bytes is malformed", and
-// of a message that did not come in a stream the same without the offset.
+// Error returns a text as "pendratsoa: Message.JSON: SetStateCommand at offset 17: payload of 3 bytes is malformed". That
+// of a message which did not come in a stream has no offset.
 func (e *MessageError) Error() string {
 	where := e.Type
 	if e.Offset >= 0 {

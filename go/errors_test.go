@@ -46,9 +46,22 @@ func TestErrorsAreThoseOfTheHeader(t *testing.T) {
 func TestErrorOfLaterLibrary(t *testing.T) {
 	for _, number := range []int64{-9, -12, -1 << 63} {
 		err := errorOf(number)
-		text := fmt.Sprintf("the library returned the error %d: a number that this package does not know", number)
+		text := fmt.Sprintf("the library returned the error %d, which this package does not know", number)
 		if !errors.Is(err, ErrUnexpected) || err.Error() != text {
 			t.Error(err)
+		}
+	}
+}
+
+// The texts of kinds of errors are those of the header, which says of what is unknown and too long less.
+func TestTextsAreThoseOfTheHeader(t *testing.T) {
+	header := string(readFile(t, "include/pendratsoa.h"))
+	for name, err := range map[string]error{
+		"MALFORMED": ErrMalformed, "OUT_OF_MEMORY": ErrOutOfMemory, "NO_ROOM": ErrNoRoom, "NO_ID": ErrNoID,
+		"NO_RESULT": ErrNoResult, "NOT_CANONICAL": ErrNotCanonical,
+	} {
+		if !strings.Contains(header, fmt.Sprintf("case JOURNAL_%s:\n        return %q;\n", name, err)) {
+			t.Errorf("%s is %v", name, err)
 		}
 	}
 }

@@ -50,7 +50,7 @@ func TestNotificationsThatAreNone(t *testing.T) {
 		}
 	}
 	_, err := ReadNotification(CodeSignalNotification, nil)
-	wantError(t, err, ErrNoID, "pendratsoa: ReadNotification: payload of 0 bytes: has no id")
+	wantError(t, err, ErrNoID, "pendratsoa: ReadNotification: payload of 0 bytes has no id")
 	_, err = ReadNotification(CodeCallCommand, nil)
 	wantError(t, err, ErrUnknown,
 		"pendratsoa: ReadNotification: unknown code 0x040d, or not of the kind that the call is for")

@@ -109,7 +109,7 @@ func TestNumberingOfPayloads(t *testing.T) {
 	}
 	for _, payload := range []string{"\x1a", "\x1a\x02a", "\xf2\x01\x01r", "\xf0\x01\x01", "\x00"} {
 		_, err := read(SchemaSetStateCommandMessage, []byte(payload))
-		want := fmt.Sprintf("pendratsoa: Numbering.ReadPayload: payload of %s: not well-formed for its schema",
+		want := fmt.Sprintf("pendratsoa: Numbering.ReadPayload: payload of %s is malformed",
 			byteCount(len(payload)))
 		if !errors.Is(err, ErrMalformed) || err.Error() != want {
 			t.Errorf("%q: %v", payload, err)
@@ -141,8 +141,8 @@ func TestNumberingOfStreams(t *testing.T) {
 		}
 	}
 	_, err := numbering.ReadStream(8, append(unhex(t, input), streamAt("\x1a")...))
-	want := fmt.Sprintf("pendratsoa: Numbering.ReadStream: SetStateCommand at offset %d: payload of 1 byte: "+
-		"not well-formed for its schema", len(unhex(t, input)))
+	want := fmt.Sprintf("pendratsoa: Numbering.ReadStream: SetStateCommand at offset %d: payload of 1 byte "+
+		"is malformed", len(unhex(t, input)))
 	if !errors.Is(err, ErrMalformed) || err.Error() != want {
 		t.Error(err)
 	}

@@ -155,9 +155,10 @@ func encodeCase(t *testing.T, words []string) string {
 	var refused *FieldError
 	switch {
 	case errors.Is(err, ErrUnknown):
-		return "unknown"
+		return noted(err, "unknown")
 	case errors.As(err, &refused) && errors.Is(err, ErrField):
-		return strings.ToLower(strings.NewReplacer("-", "", " ", "_").Replace(refused.Reason)) + " " + refused.Path
+		reason := strings.ToLower(strings.NewReplacer("-", "", " ", "_").Replace(refused.Reason))
+		return noted(err, reason+" "+refused.Path)
 	case err != nil:
 		return err.Error()
 	}
@@ -169,7 +170,7 @@ func messageCase(t *testing.T, words []string) string {
 	message, err := NewMessageOf(must(strconv.Atoi(words[0]))(t), record)
 	switch {
 	case errors.Is(err, ErrUnknown):
-		return "unknown"
+		return noted(err, "unknown")
 	case err != nil:
 		return err.Error()
 	}
@@ -180,7 +181,7 @@ func decodeCase(t *testing.T, words []string) string {
 	record := newRecord(must(SchemaNamed(words[0]))(t))
 	if err := record.UnmarshalBinary(bytesOf(t, words[1])); err != nil {
 		if errors.Is(err, ErrMalformed) {
-			return "malformed"
+			return noted(err, "malformed")
 		}
 		return err.Error()
 	}
@@ -254,13 +255,13 @@ func jsonCase(t *testing.T, words []string) string {
 	var refused *JSONError
 	switch {
 	case errors.Is(err, ErrUnknown):
-		return "unknown"
+		return noted(err, "unknown")
 	case errors.As(err, &refused) && errors.Is(err, ErrJSON):
 		place := refused.Path
 		if refused.Offset >= 0 {
 			place = strconv.Itoa(refused.Offset)
 		}
-		return strings.TrimSuffix(reasonWords[refused.Reason]+" "+place, " ")
+		return noted(err, strings.TrimSuffix(reasonWords[refused.Reason]+" "+place, " "))
 	case err != nil:
 		return err.Error()
 	case message.Version != version || message.Type() != words[1]:

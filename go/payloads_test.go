@@ -61,13 +61,13 @@ func TestResultIsOfExactlyItsBytes(t *testing.T) {
 
 func TestMalformedPayloads(t *testing.T) {
 	good, bad := unhex(t, "120178"), unhex(t, "12")
-	const malformed = ": not well-formed for its schema"
+	const malformed = " is malformed"
 	_, err := Canonical(SchemaErrorMessage, bad)
 	wantError(t, err, ErrMalformed, "pendratsoa: Canonical: payload of 1 byte"+malformed)
 	_, err = ToJSON(SchemaErrorMessage, append(good, bad...))
 	wantError(t, err, ErrMalformed, fmt.Sprintf("pendratsoa: ToJSON: payload of %d bytes", len(good)+1)+malformed)
 	_, err = Merge(SchemaErrorMessage, bad, good)
-	wantError(t, err, ErrMalformed, "pendratsoa: Merge: first of 1 byte"+malformed)
+	wantError(t, err, ErrMalformed, "pendratsoa: Merge: first payload of 1 byte"+malformed)
 	_, err = Merge(SchemaErrorMessage, good, bad)
-	wantError(t, err, ErrMalformed, "pendratsoa: Merge: second of 1 byte"+malformed)
+	wantError(t, err, ErrMalformed, "pendratsoa: Merge: second payload of 1 byte"+malformed)
 }

@@ -66,9 +66,9 @@ func TestUnknownNumbersAndNames(t *testing.T) {
 	_, err := TypeName(8)
 	wantError(t, err, ErrUnknown, "pendratsoa: TypeName: unknown code 0x0008"+orNot)
 	_, err = TypeCode("Sleep")
-	wantError(t, err, ErrUnknown, `pendratsoa: TypeCode: unknown name "Sleep"`)
+	wantError(t, err, ErrUnknown, `pendratsoa: TypeCode: unknown type "Sleep"`)
 	_, err = SchemaNamed("Sleep\x00")
-	wantError(t, err, ErrUnknown, `pendratsoa: SchemaNamed: unknown name "Sleep\x00"`)
+	wantError(t, err, ErrUnknown, `pendratsoa: SchemaNamed: unknown schema "Sleep\u0000"`)
 	for _, name := range []string{"", "CustomEntry(64513)", "sleepCommand", "\xff", strings.Repeat("Sleep", 100_000)} {
 		if _, err := TypeCode(name); !errors.Is(err, ErrUnknown) || len(err.Error()) > 200 {
 			t.Errorf("%.20s: %.300v", name, err)
@@ -118,9 +118,10 @@ func TestLengthsOfHeader(t *testing.T) {
 		t.Errorf("the header is %x", header)
 	}
 	_, err := Header(8, CodeCallCommand, 1<<32)
-	wantError(t, err, ErrTooLong, "pendratsoa: Header: length 4294967296: more than 4,294,967,295 bytes")
+	const long = "payload of 4294967296 bytes is too long: more than 4,294,967,295 bytes"
+	wantError(t, err, ErrTooLong, "pendratsoa: Header: "+long)
 	_, err = Header(8, CodeCallCommand, -1)
-	wantError(t, err, ErrNegative, "pendratsoa: Header: length -1: negative")
+	wantError(t, err, ErrNegative, "pendratsoa: Header: payload length -1 is negative")
 	for _, length := range []int{math.MinInt, math.MaxInt, 9 + 1<<32, 9 - 1<<32} {
 		if header, err := Header(8, CodeCallCommand, length); header != nil || err == nil {
 			t.Errorf("length %d: %x", length, header)
@@ -139,7 +140,7 @@ func TestFrameOfEachVersion(t *testing.T) {
 		}
 	}
 	_, err := Frame(8, CodeError, []byte{0x12})
-	wantError(t, err, ErrMalformed, "pendratsoa: Frame: payload of 1 byte: not well-formed for its schema")
+	wantError(t, err, ErrMalformed, "pendratsoa: Frame: payload of 1 byte is malformed")
 }
 
 func TestSchemasAreThoseOfTheLibrary(t *testing.T) {

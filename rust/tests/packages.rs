@@ -1,6 +1,7 @@
 //! What every package promises beyond the calls: the cases of `conformance/packages.cases`, which its README specifies.
 
-use std::collections::HashMap;
+use std::cell::RefCell;
+use std::collections::{BTreeSet, HashMap};
 use std::fs;
 use std::io::{self, Cursor, Read};
 
@@ -41,24 +42,41 @@ fn name(code: Option<u16>) -> String {
         .unwrap_or_else(|| "-".to_owned())
 }
 
+thread_local! {
+    /// The texts of the errors with which a case ended, in whatever chunks its stream came.
+    static NOTED: RefCell<BTreeSet<String>> = RefCell::default();
+}
+
+/// The result of a case that ends with an error, whose text is noted.
+pub(crate) fn noted(error: &Error, result: impl Into<String>) -> String {
+    NOTED.with(|noted| noted.borrow_mut().insert(error.to_string()));
+    result.into()
+}
+
+/// The text of the errors with which a case ended.
+fn noted_text() -> String {
+    let texts = NOTED.with(RefCell::take);
+    Vec::from_iter(texts).join(", and ")
+}
+
 /// How a stream ends.
 fn end(finished: Result<(), Error>) -> String {
-    match finished {
-        Ok(()) => "whole".to_owned(),
-        Err(Error::Incomplete(error)) => {
-            format!(
-                "incomplete {} {} {}",
-                error.offset,
-                error.rest,
-                name(error.code)
-            )
+    let error = match finished {
+        Ok(()) => return "whole".to_owned(),
+        Err(error) => error,
+    };
+    let result = match &error {
+        Error::Incomplete(found) => {
+            let name = name(found.code);
+            format!("incomplete {} {} {name}", found.offset, found.rest)
         }
-        Err(Error::MessageTooLong(error)) => {
-            let name = name(Some(error.code));
-            format!("too_long {} {name} {}", error.offset, error.length)
+        Error::MessageTooLong(found) => {
+            let name = name(Some(found.code));
+            format!("too_long {} {name} {}", found.offset, found.length)
         }
-        Err(error) => error.to_string(),
-    }
+        error => return error.to_string(),
+    };
+    noted(&error, result)
 }
 
 /// Lines of items, and how their stream ends.
@@ -160,13 +178,6 @@ fn items_case(words: &[&str]) -> String {
     found
 }
 
-fn too_long_case(words: &[&str]) -> String {
-    let mut decoder = decoder(words[0].parse().unwrap(), words[1].parse().ok());
-    decoder.feed(&bytes(words[2])).unwrap();
-    let ended = decoder.items().find_map(Result::err);
-    ended.unwrap().to_string()
-}
-
 /// What is made of each item of a stream that is there as a whole.
 fn each(version: &str, stream: &str, result: impl Fn(&Item<'_>) -> String) -> String {
     let mut decoder = decoder(version.parse().unwrap(), None);
@@ -178,7 +189,7 @@ fn each(version: &str, stream: &str, result: impl Fn(&Item<'_>) -> String) -> St
 
 fn failure(error: &Error, message: Message<'_>) -> String {
     let kind = match error {
-        Error::Unknown(_) => return "unknown".to_owned(),
+        Error::Unknown(_) => return noted(error, "unknown"),
         Error::Malformed(_) => "malformed",
         Error::NoId(_) => "no_id",
         Error::NoResult(_) => "no_result",
@@ -186,12 +197,7 @@ fn failure(error: &Error, message: Message<'_>) -> String {
     };
     assert_eq!(error.code(), Some(message.code()));
     let (name, offset) = (name(error.code()), error.offset().unwrap());
-    let text = error.to_string();
-    assert!(
-        text.starts_with(&format!("{name} at offset {offset}: ")),
-        "{text}"
-    );
-    format!("{kind} {name} {offset}")
+    noted(error, format!("{kind} {name} {offset}"))
 }
 
 fn read_case(words: &[&str]) -> String {
@@ -356,13 +362,13 @@ fn new_case(words: &[&str]) -> String {
     let payload = bytes(words[2]);
     let (version, code) = match (words[0].parse(), words[1].parse()) {
         (Ok(version), Ok(code)) => (version, code),
-        (Ok(_) | Err(Error::Unknown(_)), _) => return "unknown".to_owned(),
-        (Err(error), _) => return error.to_string(),
+        (Err(error), _) => return unknown(&error),
+        // the code is none of 16 bits
+        _ => return "unknown".to_owned(),
     };
     let message = match Message::new(version, code, &payload) {
         Ok(message) => message,
-        Err(Error::Unknown(_)) => return "unknown".to_owned(),
-        Err(error) => return error.to_string(),
+        Err(error) => return unknown(&error),
     };
     assert_eq!((message.version(), message.code()), (version, code));
     assert_eq!(message.payload(), payload);
@@ -373,6 +379,14 @@ fn new_case(words: &[&str]) -> String {
     let came: Vec<_> = decoder.items().map(Result::unwrap).collect();
     assert_eq!(came, [item]);
     format!("{item}, {}", word(&all))
+}
+
+/// The result of a case that ends with the error of what is unknown.
+pub(crate) fn unknown(error: &Error) -> String {
+    match error {
+        Error::Unknown(_) => noted(error, "unknown"),
+        error => error.to_string(),
+    }
 }
 
 fn json_case(words: &[&str]) -> String {
@@ -389,14 +403,17 @@ fn json_case(words: &[&str]) -> String {
             );
             word(message.payload())
         }
-        Err(Error::Unknown(_)) => "unknown".to_owned(),
-        Err(Error::Json(error)) => {
-            let place = error.offset.map_or(error.path, |offset| offset.to_string());
-            format!("{} {place}", reason(error.reason))
-                .trim_end()
-                .to_owned()
-        }
-        Err(error) => error.to_string(),
+        Err(error) => match &error {
+            Error::Json(found) => {
+                let offset = found.offset.map(|offset| offset.to_string());
+                let place = offset.unwrap_or_else(|| found.path.clone());
+                noted(
+                    &error,
+                    format!("{} {place}", reason(found.reason)).trim_end(),
+                )
+            }
+            error => unknown(error),
+        },
     }
 }
 
@@ -446,24 +463,49 @@ fn number_case(words: &[&str]) -> String {
     };
     match known {
         Ok(()) => "known".to_owned(),
-        Err(Error::Unknown(_)) => "unknown".to_owned(),
-        Err(error) => error.to_string(),
+        Err(error) => unknown(&error),
     }
 }
 
 fn name_case(words: &[&str]) -> String {
     let name = words[1];
-    let text = match (words[0], type_code(name)) {
+    let error = match (words[0], type_code(name)) {
         ("schema", _) if Schema::from_name(name).is_none() => return "unknown".to_owned(),
         ("schema", _) | (_, Ok(_)) => return "known".to_owned(),
-        (_, Err(error)) => error.to_string(),
+        (_, Err(error)) => error,
     };
-    let more = text
-        .strip_prefix(&format!("unknown name {name:?}"))
-        .unwrap();
-    match more.strip_prefix("; did you mean \"") {
-        Some(meant) => format!("unknown {}", meant.strip_suffix("\"?").unwrap()),
-        None => format!("unknown{more}"),
+    let result = unknown(&error);
+    match error.to_string().split_once("; did you mean \"") {
+        Some((_, meant)) => format!("{result} {}", meant.strip_suffix("\"?").unwrap()),
+        None => result,
+    }
+}
+
+/// The result of a case.
+fn result_of(words: &[&str]) -> String {
+    let (kind, words) = (words[0], &words[1..]);
+    match kind {
+        "items" => items_case(words),
+        "read" => read_case(words),
+        "as" => as_case(words),
+        "compare" => compare_case(words),
+        "mismatch" => mismatch_case(words),
+        "replay" => replay_case(words),
+        "rest" => rest_case(words),
+        "encode" => encode_case(words),
+        "message" => message_case(words),
+        "new" => new_case(words),
+        "decode" => decode_case(words),
+        "json" => json_case(words),
+        "number" => number_case(words),
+        "name" => name_case(words),
+        "limit" => limit_case(words),
+        "text" => {
+            NOTED.with(RefCell::take);
+            result_of(words);
+            noted_text()
+        }
+        kind => panic!("{kind}"),
     }
 }
 
@@ -477,31 +519,15 @@ fn each_case_has_its_result() {
     {
         let (question, expected) = line.split_once(" = ").unwrap();
         let words: Vec<&str> = question.split(' ').collect();
-        let result = match words[0] {
-            "items" => items_case(&words[1..]),
-            "too_long" => too_long_case(&words[1..]),
-            "read" => read_case(&words[1..]),
-            "as" => as_case(&words[1..]),
-            "compare" => compare_case(&words[1..]),
-            "mismatch" => mismatch_case(&words[1..]),
-            "replay" => replay_case(&words[1..]),
-            "rest" => rest_case(&words[1..]),
-            "encode" => encode_case(&words[1..]),
-            "message" => message_case(&words[1..]),
-            "new" => new_case(&words[1..]),
-            "decode" => decode_case(&words[1..]),
-            "json" => json_case(&words[1..]),
-            "number" => number_case(&words[1..]),
-            "name" => name_case(&words[1..]),
-            "limit" => limit_case(&words[1..]),
-            kind => panic!("{kind}"),
-        };
-        let expected = match words[..2] {
-            // an `Option` asks for no other name
-            ["name", "schema"] => expected.split(' ').next().unwrap(),
+        let expected = match words[..] {
+            // an `Option` asks for no other name, and has no error
+            ["name", "schema", ..] => expected.split(' ').next().unwrap(),
+            ["text", "name", "schema", ..] => "",
+            // a text is UTF-8
+            ["text", "encode", ..] if expected.ends_with("not UTF-8") => "",
             _ => expected,
         };
-        assert_eq!(result, expected, "{line}");
+        assert_eq!(result_of(&words), expected, "{line}");
         count += 1;
     }
     assert!(count > 100, "{count} cases");
@@ -527,10 +553,11 @@ fn set_case(made: &Result<Numbering, Error>) -> String {
     match made {
         Ok(_) => "ok".to_owned(),
         Err(Error::Numbering(error)) => {
-            let reason = match error.reason {
-                NumberingReason::NoSet => "no_set",
-                _ => "no_rename",
+            let (reason, argument) = match error.reason {
+                NumberingReason::NoSet => ("no_set", "descriptor set"),
+                _ => ("no_rename", "renames"),
             };
+            assert_eq!(error.to_string(), format!("{argument}: {}", error.text));
             format!("{reason} {}", word(error.text.as_bytes()))
         }
         Err(error) => error.to_string(),

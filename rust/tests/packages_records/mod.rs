@@ -10,7 +10,7 @@ use pendratsoa::messages::{
 };
 use pendratsoa::{Error, FieldError, Item, Message, Version};
 
-use crate::{bytes, word};
+use crate::{bytes, noted, unknown, word};
 
 /// The words of a record's fields. What a field cannot hold is its reason and its path.
 struct Words<'w>(HashMap<&'w str, &'w str>);
@@ -82,10 +82,7 @@ impl Words<'_> {
 
 /// The version of a word, or that it is unknown.
 fn version_of(word: &str) -> Result<Version, String> {
-    word.parse().map_err(|error| match error {
-        Error::Unknown(_) => "unknown".to_owned(),
-        error => error.to_string(),
-    })
+    word.parse().map_err(|error| unknown(&error))
 }
 
 fn frame_of<'a, R: MessageRecord<'a>>(record: &R, version: Version) -> Result<Vec<u8>, String> {
@@ -298,7 +295,7 @@ pub fn decode_case(words: &[&str]) -> String {
         name => panic!("{name}"),
     };
     match decoded {
-        Err(Error::Malformed(_)) => "malformed".to_owned(),
+        Err(error @ Error::Malformed(_)) => noted(&error, "malformed"),
         Err(error) => error.to_string(),
         Ok(()) if found.0.is_empty() => "-".to_owned(),
         Ok(()) => found.0.join(", "),
