@@ -87,8 +87,8 @@ type MessageError struct {
 	Err *Error
 }
 
-// Error returns a text as "pendratsoa: Message.JSON: SetStateCommand at offset 17: payload of 3 bytes is malformed". That
-// of a message which did not come in a stream has no offset.
+// Error returns a text as "pendratsoa: Message.JSON: SetStateCommand at offset 17: payload of 3 bytes is malformed". The
+// text of a message without an offset has none.
 func (e *MessageError) Error() string {
 	where := e.Type
 	if e.Offset >= 0 {
@@ -226,7 +226,7 @@ func unexpectedText(what string) error {
 // mostShown is how many characters of a name an error shows.
 const mostShown = 64
 
-// quoted returns a name that came from outside in quotes, of a long one its beginning.
+// quoted returns a name from outside in quotes, of a long one its beginning.
 func quoted(name string) string {
 	letters := []rune(name)
 	if len(letters) > mostShown {
@@ -235,7 +235,7 @@ func quoted(name string) string {
 	return `"` + escaped(name) + `"`
 }
 
-// escaped returns a text that came from outside as errors have it: on one line, and with no command for a terminal.
+// escaped returns a text from outside as errors have it: on one line, and with no command for a terminal.
 func escaped(text string) string {
 	var out strings.Builder
 	for _, letter := range text {

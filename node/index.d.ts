@@ -746,7 +746,7 @@ export class Replay {
 /**
  * A call failed. The message names the call, the argument that it failed for, and its value; no call if what is wrong
  * is not an argument, as the payload of an item. Of this class itself is the error that the library returned a number
- * which this module does not know, as a later one may.
+ * which this package does not know, as a later one may.
  */
 export class JournalError extends Error {
   constructor(message?: string, details?: { call?: string; argument?: string; value?: unknown });

@@ -241,12 +241,12 @@ const CONTROLS = /[\u0000-\u001f\u007f-\u009f\u2028-\u202e\u2066-\u2069]|\p{Surr
 // How many units of a name are shown.
 const MOST_SHOWN = 64;
 
-/** A text that came from outside, as messages have it: on one line, and with no command for a terminal. */
+/** A text from outside, as messages have it: on one line, and with no command for a terminal. */
 function escaped(text) {
   return text.replace(CONTROLS, (control) => `\\u${control.charCodeAt(0).toString(16).padStart(4, '0')}`);
 }
 
-/** A name that came from outside, in quotes, of a long one its beginning. */
+/** A name from outside, in quotes, of a long one its beginning. */
 export function quoted(name) {
   return `"${escaped(name.slice(0, MOST_SHOWN))}"${name.length > MOST_SHOWN ? '..' : ''}`;
 }

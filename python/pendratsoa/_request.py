@@ -79,12 +79,12 @@ def byte_count(count: int) -> str:
 
 
 def escaped(text: str) -> str:
-    """A text that came from outside, as texts of errors have it: on one line, and with no command for a terminal."""
+    """A text from outside, as texts of errors have it: on one line, and with no command for a terminal."""
     return CONTROLS.sub(lambda found: f"\\u{ord(found[0]):04x}", text)
 
 
 def quoted(name: str) -> str:
-    """A name that came from outside, in quotes, of a long one its beginning."""
+    """A name from outside, in quotes, of a long one its beginning."""
     return f'"{escaped(name[:MOST_SHOWN])}"{".." if len(name) > MOST_SHOWN else ""}'
 
 

@@ -196,7 +196,7 @@ class TestSets(unittest.TestCase):
             self.assertEqual((found.call, found.argument, found.value), ("Numbering", "descriptor_set", data))
             self.assertIs(found.reason, NumberingReason.NO_SET)
             self.assertNotEqual(found.text, "")
-            self.assertEqual(str(found), f"descriptor_set: {found.text}")
+            self.assertEqual(str(found), f"descriptor set: {found.text}")
         with self.assertRaises(NumberingError) as error:
             Numbering(twice)
         self.assertEqual(error.exception.text, "a.proto: a.Value.other: number of a later field")

@@ -404,7 +404,7 @@ impl fmt::Display for Argument {
     }
 }
 
-/// A text that came from outside, as errors print it: on one line, and with no command for a terminal.
+/// A text from outside, as errors print it: on one line, and with no command for a terminal.
 pub(crate) struct Escaped<'a>(pub(crate) &'a str);
 
 impl fmt::Display for Escaped<'_> {
@@ -425,7 +425,7 @@ fn is_control(letter: char) -> bool {
     letter.is_control() || matches!(letter, '\u{2028}'..='\u{202e}' | '\u{2066}'..='\u{2069}')
 }
 
-/// A name that came from outside, in quotes, of a long one its beginning.
+/// A name from outside, in quotes, of a long one its beginning.
 pub(crate) struct Quoted<'a>(pub(crate) &'a str);
 
 impl fmt::Display for Quoted<'_> {

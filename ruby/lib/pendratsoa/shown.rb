@@ -13,12 +13,12 @@ module Pendratsoa
     # How many characters of a name are shown.
     MOST_SHOWN = 64
 
-    # A text that came from outside, as texts of errors have it: on one line, and with no command for a terminal.
+    # A text from outside, as texts of errors have it: on one line, and with no command for a terminal.
     def self.escaped(text)
       text.b.force_encoding(Encoding::UTF_8).scrub.gsub(CONTROLS) { |control| format("\\u%04x", control.ord) }
     end
 
-    # A name that came from outside, in quotes, of a long one its beginning.
+    # A name from outside, in quotes, of a long one its beginning.
     def self.quoted(name)
       text = name.b.force_encoding(Encoding::UTF_8)
       "\"#{escaped(text[0, MOST_SHOWN])}\"#{".." if text.length > MOST_SHOWN}"
