@@ -87,8 +87,8 @@ type MessageError struct {
 	Err *Error
 }
 
-// Error returns a text as "pendratsoa: Message.JSON: SetStateCommand at offset 17: payload of 3 bytes is malformed". The
-// text of a message without an offset has none.
+// Error returns a text as "pendratsoa: Message.JSON: SetStateCommand at offset 17: payload of 3 bytes is malformed".
+// The text of a message without an offset has none.
 func (e *MessageError) Error() string {
 	where := e.Type
 	if e.Offset >= 0 {

@@ -31,7 +31,8 @@ type JSONError struct {
 	Reason JSONReason
 	// Offset is where the text stops being JSON, in bytes, and -1 if it is JSON.
 	Offset int
-	// Path leads to the rejected value, as "headers[2].key". It is empty if the text is not JSON.
+	// Path leads to the rejected value, as "headers[2].key". It is empty if the text is not JSON. Names of members are as
+	// they are in the text. Error returns them with their control characters escaped.
 	Path string
 }
 

@@ -855,7 +855,10 @@ export class JsonError extends JournalError {
   /** Where the text stops being JSON, in bytes of its UTF-8, or undefined if it is JSON. */
   readonly offset: number | undefined;
 
-  /** What leads to the rejected value, as `'headers[2].key'`; empty if the text is not JSON. */
+  /**
+   * What leads to the rejected value, as `'headers[2].key'`; empty if the text is not JSON. Names of members are as they
+   * are in the text. The message of the error has their control characters escaped.
+   */
   readonly path: string;
 }
 

@@ -142,7 +142,8 @@ class JsonError(JournalError, ValueError):
     """Where the text stops being JSON, in bytes of its UTF-8, and None if it is JSON."""
 
     path: str
-    """What leads to the rejected value, as "headers[2].key", if the text is JSON; otherwise empty."""
+    """What leads to the rejected value, as "headers[2].key", if the text is JSON; otherwise empty. Names of members are
+    as they are in the text. The text of the error has their control characters escaped."""
 
     def __init__(
         self,

@@ -15,7 +15,8 @@ pub struct JsonError {
     pub reason: JsonReason,
     /// Where the text stops being JSON, in bytes; `None` if it is JSON.
     pub offset: Option<usize>,
-    /// What leads to the rejected value, as `headers[2].key`; empty if the text is not JSON.
+    /// What leads to the rejected value, as `headers[2].key`; empty if the text is not JSON. Names of members are as
+    /// they are in the text. The error prints them with their control characters escaped.
     pub path: String,
     /// How many bytes the text has.
     pub length: usize,

@@ -128,7 +128,8 @@ module Pendratsoa
   # A JSON text means no value of its schema.
   class JsonError < Error
     # Why, as one of JSON_REASONS; where the text stops being JSON, in bytes, which is nil if it is JSON; and then what
-    # leads to the rejected value, as "value.content".
+    # leads to the rejected value, as "value.content". Names of members are as they are in the text. The message of the
+    # error has their control characters escaped.
     attr_reader :reason, :offset, :path
 
     def initialize(message = nil, reason: nil, offset: nil, path: "", **details)
