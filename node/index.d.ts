@@ -856,8 +856,8 @@ export class JsonError extends JournalError {
   readonly offset: number | undefined;
 
   /**
-   * What leads to the rejected value, as `'headers[2].key'`; empty if the text is not JSON. Names of members are as they
-   * are in the text. The message of the error has their control characters escaped.
+   * What leads to the rejected value, as `'headers[2].key'`; empty if the text is not JSON. Names of members are as in
+   * the text. The message of the error has their control characters escaped.
    */
   readonly path: string;
 }
