@@ -191,8 +191,8 @@ static inline bool journal_reader_header(const struct journal_reader *reader, ui
 
 /*
  * What the stream ended with, if all of it was given, and every item taken: the trailing bytes, and as much of their
- * header as came. After JOURNAL_TOO_LONG they are those of the item that is too long. It changes nothing: more of the
- * stream may come after it.
+ * header as came. After JOURNAL_TOO_LONG they are what came from the header of the item that is too long on. It changes
+ * nothing: more of the stream may come after it.
  */
 static inline struct journal_reader_rest journal_reader_finish(const struct journal_reader *reader) {
     struct journal_reader_rest rest = {reader->offset, NULL, journal_reader_pending(reader), false, 0, false, 0};
@@ -253,8 +253,8 @@ static inline int64_t journal_reader_feed(struct journal_reader *reader, const u
  * Takes the next item. Returns 1 if one is there, and 0 if no whole one is there yet.
  *
  * Its errors are those of journal_next_within: JOURNAL_UNKNOWN_VERSION, JOURNAL_TOO_LONG as soon as the header is there
- * of an item whose payload has more than the limit. Nothing is taken then: the item begins at reader->offset, and
- * journal_reader_header has its code and its length.
+ * of an item whose payload has more than the limit. Nothing is taken then: the item begins at reader->offset,
+ * journal_reader_header has its code and its length, and journal_reader_finish the bytes from its header on.
  */
 static inline int64_t journal_reader_next(struct journal_reader *reader, struct journal_reader_item *found) {
     const size_t pending = journal_reader_pending(reader);

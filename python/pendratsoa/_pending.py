@@ -7,7 +7,6 @@ import threading
 from typing import Callable, Iterator, List, NoReturn, Optional, Tuple, Union
 
 from ._declared import ITEM_MESSAGE, ITEM_NUMBERS, ITEM_SKIPPED, ITEM_UNKNOWN_CODE
-from ._errors import ERRORS, TooLong
 from ._items import Item, Message, Skipped, UnknownCode, came, items_of, message_that_came
 from ._library import library
 
@@ -22,8 +21,6 @@ NO_LIMIT = 2**32 - 1
 
 # how many bytes a header has
 HEADER = 8
-
-TOO_LONG = next(number for number, (kind, _) in ERRORS.items() if kind is TooLong)
 
 
 class Pending:
@@ -47,10 +44,8 @@ class Pending:
         self._chunks_size = 0
         # how many bytes are missing after `_left` at least; 0 if this is not known
         self._missing = 0
-        # how many bytes items have taken; the error that ended the stream, and the header that it is about
+        # how many bytes items have taken
         self._offset = 0
-        self._ended = 0
-        self._head = b""
 
     def feed(self, chunk: bytes) -> None:
         """Appends bytes, which are kept."""
@@ -97,12 +92,9 @@ class Pending:
         return self._offset
 
     def head(self) -> bytes:
-        """The first eight bytes of what is in no item yet, or fewer if fewer came; once a message is longer than the
-        limit, its header."""
+        """The first eight bytes of what is in no item yet, or fewer if fewer came."""
         with self._lock:
             self._alone()
-            if self._ended:
-                return self._head
             data, _, begin = self._left
             head = data[begin : begin + HEADER]
             for chunk in self._chunks:
@@ -121,13 +113,11 @@ class Pending:
         """What `take` returns."""
         if self._taken < self._found:
             return self._cut()
-        missing = self._ended or self._missing or self._look()
+        missing = self._missing or self._look()
         if 0 < missing <= self._chunks_size:
             self._join()
             missing = self._look()
         self._missing = max(0, missing)
-        if missing == TOO_LONG and self._limit is not None and self._ended == 0:
-            self._end(missing)
         return self._cut() if missing == 0 else missing if missing < 0 else None
 
     def _look(self) -> int:
@@ -139,14 +129,6 @@ class Pending:
         missing = library.journal_next_within(*rest, ITEM_NUMBERS) if found == 0 else min(0, found)
         self._found, self._taken = max(1, found) if missing == 0 else 0, 0
         return missing
-
-    def _end(self, number: int) -> None:
-        """Ends the stream by an error, and drops what came."""
-        data, _, begin = self._left
-        self._ended, self._head = number, data[begin : begin + HEADER]
-        self._left = b"", 0, 0
-        self._chunks.clear()
-        self._chunks_size = 0
 
     def _join(self) -> None:
         """Joins what came to what is left, so that each byte is joined twice at most."""

@@ -57,8 +57,8 @@ class Stream:
     any time, within the loop too. Several threads may use one stream; each item then comes to one of them.
 
     A message whose payload has more than `max_message_size` bytes is a `MessageTooLong` as soon as its header came, and
-    ends the stream: what came is dropped, and from then on each loop, `feed`, `read` and `finish` raise the same error.
-    The eight bytes of a header do not count. None is not a limit.
+    ends the stream: from then on each loop, `feed`, `read` and `finish` raise the same error, and `trailing` has what
+    was received of the message and after it. The eight bytes of a header do not count. None is not a limit.
 
     With a `numbering` the payload of each message is at the protocol's own field numbers, and `bytes` and `offset` are
     those of the stream that is read. A payload that cannot be read so is a `Malformed`, which names its message; a next
@@ -95,7 +95,7 @@ class Stream:
         """The pending bytes, `rest` of them, each time in a copy.
 
         Once all items were taken, they begin an item that is not whole. A proxy passes them on where its input ends.
-        After `Incomplete` they are still there. After `MessageTooLong` there are none.
+        After `Incomplete` they are still there. After `MessageTooLong` they begin with the header of that message.
         """
         return self._pending.trailing()
 

@@ -134,8 +134,6 @@ struct pending {
     uint64_t missing;    /* how many bytes are missing after `data` at least; 0 if this is not known */
     uint64_t offset;     /* how many bytes items have taken */
     uint64_t changes;    /* counts them, since another thread may run where memory is collected */
-    int64_t ended;       /* the error that ended it, or 0 */
-    uint8_t head[HEADER_BYTES]; /* then the header of that message */
 };
 
 /* A loop over what came: `refuse` raises the error of a number that is taken in place of an item. */

@@ -60,33 +60,14 @@ static int64_t look(struct pending *self, struct journal_item *item)
     const struct library *library = &self->native->library;
     const uint8_t *bytes = self->data == NULL ? NULL : (const uint8_t *)PyBytes_AsString(self->data) + self->begin;
     size_t length = left(self);
-    int64_t missing = self->is_limited
-                          ? library->next_within(self->version, self->limit, bytes, length, item, JOURNAL_ITEM_NUMBERS)
-                          : library->next(self->version, bytes, length, item, JOURNAL_ITEM_NUMBERS);
-    if (missing == JOURNAL_TOO_LONG && length >= sizeof self->head) {
-        memcpy(self->head, bytes, sizeof self->head);
-    }
-    return missing;
-}
-
-/* Drops all bytes received. */
-static void drop(struct pending *self)
-{
-    self->begin = 0;
-    self->chunks_size = 0;
-    self->changes += 1;
-    Py_CLEAR(self->data);
-    if (PyList_SetSlice(self->chunks, 0, PyList_Size(self->chunks), NULL) != 0) {
-        PyErr_Clear();
-    }
+    return self->is_limited
+               ? library->next_within(self->version, self->limit, bytes, length, item, JOURNAL_ITEM_NUMBERS)
+               : library->next(self->version, bytes, length, item, JOURNAL_ITEM_NUMBERS);
 }
 
 /* Looks for an item, in what came after as well once that is enough. -1 with an exception if there is no memory. */
 static int64_t found(struct pending *self, struct journal_item *item)
 {
-    if (self->ended != 0) {
-        return self->ended;
-    }
     int64_t missing = self->missing == 0 ? look(self, item) : (int64_t)self->missing;
     if (missing > 0 && (uint64_t)missing <= self->chunks_size) {
         if (join(self) != 0) {
@@ -95,10 +76,6 @@ static int64_t found(struct pending *self, struct journal_item *item)
         missing = look(self, item);
     }
     self->missing = missing > 0 ? (uint64_t)missing : 0;
-    if (missing == JOURNAL_TOO_LONG && self->is_limited) {
-        self->ended = missing;
-        drop(self);
-    }
     return missing;
 }
 
@@ -290,15 +267,11 @@ static size_t append_head(char head[HEADER_BYTES], size_t came, PyObject *bytes,
     return came + taken;
 }
 
-PyDoc_STRVAR(head_doc, "head()\n--\n\nThe first eight bytes of what is in no item yet, or fewer if fewer came; once a "
-                       "message is longer than the limit, its header.");
+PyDoc_STRVAR(head_doc, "head()\n--\n\nThe first eight bytes of what is in no item yet, or fewer if fewer came.");
 
 static PyObject *head(struct pending *self, PyObject *none)
 {
     (void)none;
-    if (self->ended != 0) {
-        return PyBytes_FromStringAndSize((const char *)self->head, sizeof self->head);
-    }
     char head[HEADER_BYTES];
     size_t came = self->data == NULL ? 0 : append_head(head, 0, self->data, self->begin);
     Py_ssize_t count = PyList_Size(self->chunks);

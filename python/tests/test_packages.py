@@ -119,15 +119,13 @@ def raised(call, *arguments):
     return None
 
 
-def listing(items, ended):
-    """The items of a stream, and how it ended."""
-    if ended is None:
-        end = "whole"
-    elif isinstance(ended, Incomplete):
+def listing(items, ended, end="whole"):
+    """The items of a stream, and how it ended; `end` is without an error."""
+    if isinstance(ended, Incomplete):
         end = f"incomplete {ended.offset} {ended.rest} {name_of(ended.code)}"
     elif isinstance(ended, MessageTooLong):
         end = f"too_long {ended.offset} {name_of(ended.code)} {ended.length}"
-    else:
+    elif ended is not None:
         raise ended
     lines = ", ".join(f"{item.offset} {item}" for item in items)
     return f"{lines}; {end}" if lines else end
@@ -143,9 +141,12 @@ class Chunks:
 
     def __init__(self, chunks):
         self.left = [chunk for chunk in chunks if chunk]
+        self.given = b""
 
     def next(self):
-        return self.left.pop(0) if self.left else b""
+        chunk = self.left.pop(0) if self.left else b""
+        self.given += chunk
+        return chunk
 
     async def read(self, size):
         return self.next()
@@ -186,21 +187,34 @@ class TestPackages(unittest.TestCase):
                 self.assertEqual(way(given, other), found)
         return found
 
+    def not_strict_result(self, version, limit, *words):
+        chunks = [bytes_of(word) for word in words]
+        given = int(version), None if limit == "-" else int(limit)
+        whole = b"".join(chunks)
+        found = self.read(given, chunks, False)
+        for other in (chunks, [whole], [whole[at : at + 1] for at in range(len(whole))]):
+            for way in (self.read, self.read_async):
+                self.assertEqual(way(given, other, False), found)
+        return found
+
     def fed(self, given, chunks):
         """The listing of a stream that is fed these chunks."""
         stream = Stream(*given)
-        found = []
+        found, came = [], []
 
         def take():
             for chunk in chunks:
                 stream.feed(chunk)
+                came.append(chunk)
                 for item in stream:
                     found.append(item)
             stream.finish()
 
-        return self.checked(stream, chunks, found, raised(take))
+        ended = raised(take)
+        self.check(stream, b"".join(came), found, ended)
+        return self.noted(ended, listing(found, ended))
 
-    def read(self, given, chunks):
+    def read(self, given, chunks, strict=True):
         """The listing of a stream that reads these chunks."""
         stream = Stream(*given)
         found = []
@@ -208,34 +222,36 @@ class TestPackages(unittest.TestCase):
         reader.read = lambda size: reader.next()
 
         def take():
-            for item in stream.read(reader):
+            for item in stream.read(reader, strict=strict):
                 found.append(item)
 
-        return self.checked(stream, chunks, found, raised(take))
+        ended = raised(take)
+        self.check(stream, reader.given, found, ended)
+        return self.noted(ended, listing(found, ended, "whole" if strict else f"ended {stream.rest}"))
 
-    def read_async(self, given, chunks):
+    def read_async(self, given, chunks, strict=True):
         """The listing of a stream that reads these chunks asynchronously."""
         stream = Stream(*given)
         found = []
+        reader = Chunks(chunks)
 
         async def take():
-            async for item in stream.read_async(Chunks(chunks)):
+            async for item in stream.read_async(reader, strict=strict):
                 found.append(item)
 
-        return self.checked(stream, chunks, found, raised(lambda: asyncio.run(take())))
+        ended = raised(lambda: asyncio.run(take()))
+        self.check(stream, reader.given, found, ended)
+        return self.noted(ended, listing(found, ended, "whole" if strict else f"ended {stream.rest}"))
 
-    def checked(self, stream, chunks, found, ended):
-        """The listing of what came. The error stays. The items are the first bytes of the stream, and `trailing` has
-        the others; once a message is too long there are none."""
+    def check(self, stream, came, found, ended):
+        """The error stays. The items are the first bytes of what came, and `trailing` has the others."""
         if isinstance(ended, MessageTooLong):
             for call in (stream.finish, lambda: next(iter(stream)), lambda: stream.feed(b"x")):
                 self.assertIs(raised(call), ended)
         elif ended is not None:
             self.assertEqual(str(raised(stream.finish)), str(ended))
-        came, whole = b"".join(map(bytes, found)), b"".join(chunks)
-        self.assertTrue(whole.startswith(came))
-        self.assertEqual(stream.trailing, b"" if isinstance(ended, MessageTooLong) else whole[len(came) :])
-        return self.noted(ended, listing(found, ended))
+        self.assertEqual(b"".join(map(bytes, found)) + stream.trailing, came)
+        self.assertEqual(stream.rest, len(stream.trailing))
 
     def read_result(self, call, version, word):
         return ", ".join(self.reading(item, READS[call]) for item in items_of(version, word))

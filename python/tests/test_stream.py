@@ -221,7 +221,7 @@ class TestFeeding(unittest.TestCase):
             self.assertEqual((error.argument, error.value), ("max_message_size", INPUT_LENGTH))
             self.assertEqual((error.code, error.length, error.limit), (0, 0xFFFF_FFFF, INPUT_LENGTH))
             self.assertEqual(error.offset, len(INPUT))
-            self.assertEqual(stream.rest, 0)
+            self.assertEqual(stream.rest, len(endless))
         self.assertEqual(found, EXPECTED[:1])
         for call in (lambda: stream.feed(b"x"), stream.finish, lambda: list(stream.read(io.BytesIO()))):
             with self.assertRaises(MessageTooLong):
@@ -405,9 +405,9 @@ class TestTrailing(unittest.TestCase):
             for chunk in chunks:
                 stream.feed(chunk)
             self.assertEqual(stream.trailing, b"".join(chunks))
-            for _ in range(2):
-                self.assertRaises(MessageTooLong, list, stream)
-                self.assertEqual((stream.trailing, stream.rest), (b"", 0))
+            for call in (lambda: list(stream), lambda: stream.feed(b"x"), stream.finish, lambda: list(stream)):
+                self.assertRaises(MessageTooLong, call)
+                self.assertEqual((stream.trailing, stream.rest), (b"".join(chunks), sum(map(len, chunks))))
 
     def test_what_is_passed_on_is_the_stream(self):
         for size in range(1, 20):

@@ -159,10 +159,13 @@ class TestStream < Minitest::Test
     assert_equal [ITEMS[0]], stream.feed(Helper::INPUT.byteslice(12..)).to_a
     limited = Pendratsoa::Stream.new(max_message_size: 8).feed("#{Helper::INPUT}more")
     assert_equal "#{Helper::INPUT}more", limited.trailing
-    2.times do
-      assert_raises(Pendratsoa::MessageTooLong) { limited.to_a }
-      assert_equal ["", 0], [limited.trailing, limited.rest]
+    [-> { limited.to_a }, -> { limited.feed("x") }, -> { limited.finish }, -> { limited.to_a }].each do |call|
+      assert_raises(Pendratsoa::MessageTooLong, &call)
+      assert_equal ["#{Helper::INPUT}more", Helper::INPUT.bytesize + 4], [limited.trailing, limited.rest]
     end
+    copy = limited.dup
+    assert_equal limited.trailing, copy.trailing
+    assert_raises(Pendratsoa::MessageTooLong) { copy.to_a }
   end
 
   def test_version_9_skips_a_message_with_its_payload
@@ -256,7 +259,7 @@ class TestStream < Minitest::Test
       assert_equal text, error.message
       assert_equal [0, 0xffff_ffff, 9, 17], [error.code, error.length, error.limit, error.offset]
       assert_equal ["Stream", :max_message_size, 9], [error.call, error.argument, error.value]
-      assert_equal 0, stream.rest
+      assert_equal endless, stream.trailing
     end
     assert_equal ITEMS.take(1), items
     assert_raises(Pendratsoa::MessageTooLong) { stream.feed("x") }

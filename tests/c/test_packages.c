@@ -4,9 +4,9 @@
  *
  * SCHEMAS is a file with the names of the schemas, one per line, in the order of their numbers. conformance/README.md
  * specifies a line. Streams are read by pendratsoa_reader.h, records by pendratsoa_messages.h. C has no call for the
- * lines of the kinds `as` and `message`, and no text for those of the kinds `text` and `name`; a line of no kind fails.
- * An arena names a field by its record and its number, so a path is looked up here. The last line is 'N passed, M
- * failed'.
+ * lines of the kinds `as` and `message`, no loop over a source for `not_strict`, and no text for those of the kinds
+ * `text` and `name`; a line of no kind fails. An arena names a field by its record and its number, so a path is looked
+ * up here. The last line is 'N passed, M failed'.
  */
 #define _POSIX_C_SOURCE 200809L
 #include <pendratsoa_messages.h>
@@ -65,14 +65,15 @@ static void say_end(const struct journal_reader *reader, int64_t result) {
     }
 }
 
-/* The items of a stream in these chunks, and how it ends. */
+/* The items of a stream in these chunks, and how it ends: what came is in them, or is left. */
 static void say_stream(uint32_t version, uint32_t limit, const struct buffer *chunks, size_t count) {
     struct journal_reader reader = journal_reader_of(version, limit);
     struct journal_reader_item item;
-    size_t items = 0;
+    size_t items = 0, came = 0;
     int64_t result = 0;
 
     for (size_t i = 0; result >= 0 && i < count; i++) {
+        came += chunks[i].length;
         if (journal_reader_feed(&reader, chunks[i].bytes, chunks[i].length) < 0) {
             fail("out of memory");
         }
@@ -83,6 +84,9 @@ static void say_stream(uint32_t version, uint32_t limit, const struct buffer *ch
     }
     if (result < 0 && journal_reader_next(&reader, &item) != result) {
         say("another error at once");
+    }
+    if (journal_reader_finish(&reader).offset + journal_reader_pending(&reader) != came) {
+        say("bytes that are lost");
     }
     if (items > 0) {
         /* a comma and a space come after the last item */
@@ -762,8 +766,8 @@ static const struct kind_of_line kinds[] = {{"items", items},       {"read", rea
                                             {"mismatch", mismatch}, {"replay", replay},      {"encode", encode},
                                             {"decode", decode},     {"json", json},          {"number", number},
                                             {"limit", limit},       {"rest", rest},          {"new", new_message},
-                                            {"as", NULL},           {"message", NULL},       {"too_long", NULL},
-                                            {"name", NULL}};
+                                            {"as", NULL},           {"message", NULL},       {"not_strict", NULL},
+                                            {"text", NULL},         {"name", NULL}};
 
 static int check_line(char *line) { return check_words(line, kinds, sizeof kinds / sizeof *kinds); }
 

@@ -4,6 +4,9 @@
 /* How much room is kept where nothing is left. */
 #define KEPT 65536
 
+/* How many bytes a header has. */
+#define HEADER_BYTES 8
+
 /* The bytes received, from the first that is in no item on, and what is known of the next item. */
 struct pending {
     uint8_t *bytes;
@@ -15,8 +18,6 @@ struct pending {
     bool is_limited;
     uint64_t needed; /* how many bytes the next item needs at least; 0 if this is not known */
     uint64_t offset; /* how many bytes items have taken */
-    int64_t ended;   /* the error that ended the stream, or 0 */
-    uint8_t head[8]; /* then the header that it is about */
 };
 
 static ID word_variable, offset_variable;
@@ -122,9 +123,6 @@ static VALUE feed(VALUE self, VALUE data)
 /* Looks for an item: how many bytes are missing at least, 0 if it is whole, or an error. */
 static int64_t look(struct pending *self, struct journal_item *item)
 {
-    if (self->ended != 0) {
-        return self->ended;
-    }
     size_t length = left(self);
     if (length < self->needed) {
         return (int64_t)(self->needed - length);
@@ -135,11 +133,6 @@ static int64_t look(struct pending *self, struct journal_item *item)
                           ? library->next_within(self->version, self->limit, bytes, length, item, JOURNAL_ITEM_NUMBERS)
                           : library->next(self->version, bytes, length, item, JOURNAL_ITEM_NUMBERS);
     self->needed = missing > 0 ? length + (uint64_t)missing : 0;
-    if (missing == JOURNAL_TOO_LONG && self->is_limited && length >= sizeof self->head) {
-        memcpy(self->head, bytes, sizeof self->head);
-        self->ended = missing;
-        self->begin = self->end = 0;
-    }
     return missing;
 }
 
@@ -232,16 +225,12 @@ static VALUE offset(VALUE self)
     return ULL2NUM(pending_of(self)->offset);
 }
 
-/* The first eight bytes of what is in no item yet, or fewer if fewer came; once a message is longer than the limit, its
- * header. */
+/* The first eight bytes of what is in no item yet, or fewer if fewer came. */
 static VALUE head(VALUE self)
 {
     const struct pending *pending = pending_of(self);
-    if (pending->ended != 0) {
-        return rb_str_new((const char *)pending->head, sizeof pending->head);
-    }
     size_t came = left(pending);
-    return string_of(pending, came < sizeof pending->head ? came : sizeof pending->head);
+    return string_of(pending, came < HEADER_BYTES ? came : HEADER_BYTES);
 }
 
 void define_stream(VALUE pendratsoa)

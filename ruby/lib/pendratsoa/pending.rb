@@ -9,8 +9,6 @@ module Pendratsoa
     # The limit that is none.
     NO_LIMIT = (2**32) - 1
 
-    TOO_LONG = ERRORS.find { |_, (name, _)| name == :TooLong }.first
-
     # How many bytes items have taken.
     attr_reader :offset
 
@@ -19,7 +17,6 @@ module Pendratsoa
       @version = version
       @limit = limit
       @offset = 0
-      @ended = nil
       @lock = Mutex.new
       # what came, where that which is in no item yet begins in it, and how many bytes of that the next item needs
       @bytes = String.new
@@ -50,10 +47,9 @@ module Pendratsoa
       @lock.synchronize { String.new << @bytes.byteslice(@begin..) }
     end
 
-    # The first eight bytes of what is in no item yet, or fewer if fewer came; once a message is longer than the limit,
-    # its header.
+    # The first eight bytes of what is in no item yet, or fewer if fewer came.
     def head
-      @lock.synchronize { @ended ? @head : @bytes.byteslice(@begin, 8) }
+      @lock.synchronize { @bytes.byteslice(@begin, 8) }
     end
 
     # The next item, or nil if not all of it came; or a number: an error of the library, or a kind of items that is not
@@ -61,12 +57,10 @@ module Pendratsoa
     def take
       @lock.synchronize do
         next cut if @taken < @found.length
-        next @ended if @ended
         next if @bytes.bytesize - @begin < @needed
 
         missing = look
         @needed = missing.positive? ? @bytes.bytesize - @begin + missing : 0
-        stop(missing) if missing == TOO_LONG && @limit
         next cut if missing.zero?
 
         missing.negative? ? missing : nil
@@ -94,14 +88,6 @@ module Pendratsoa
       @found = numbers.each_slice(ITEM_NUMBERS).first(missing.zero? ? [count, 1].max : 0)
       @taken = 0
       missing
-    end
-
-    # Ends the stream by an error, and drops what came.
-    def stop(number)
-      @ended = number
-      @head = @bytes.byteslice(@begin, 8)
-      @bytes = String.new
-      @begin = 0
     end
 
     def drop_used

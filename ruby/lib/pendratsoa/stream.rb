@@ -11,8 +11,8 @@ module Pendratsoa
   # any time, within the loop too. Several threads may use one stream; each item then comes to one of them.
   #
   # A message whose payload has more than `max_message_size` bytes raises MessageTooLong as soon as its header came, and
-  # ends the stream: what came is dropped, and from then on each loop, `feed`, `read` and `finish` raise the same error.
-  # The eight bytes of its header do not count. nil is not a limit.
+  # ends the stream: from then on each loop, `feed`, `read` and `finish` raise the same error, and `trailing` has what
+  # was received of the message and after it. The eight bytes of its header do not count. nil is not a limit.
   #
   # Payloads are not checked: `message` of an item does that.
   #
@@ -65,7 +65,7 @@ module Pendratsoa
 
     # The pending bytes, `rest` of them, each time in a new binary String. Once all items were taken, they begin an item
     # that is not whole. A proxy passes them on where its input ends. After Incomplete they are still there. After
-    # MessageTooLong there are none.
+    # MessageTooLong they begin with the header of that message.
     def trailing
       @pending.trailing
     end
