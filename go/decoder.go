@@ -51,6 +51,8 @@ type Decoder struct {
 	hasLimit bool
 	// numbering reads the payloads, unless it is nil
 	numbering *Numbering
+	// isLenient says that the end of the stream within an item is io.EOF
+	isLenient bool
 	// offset is how many bytes are in the items that Next returned; ended is the error that ended the stream
 	offset int64
 	ended  error
@@ -85,7 +87,7 @@ func (e *MessageTooLongError) Unwrap() error {
 
 // SetMaxMessageSize sets the greatest size of a payload that Next returns, in bytes; without it there is no limit. The
 // eight bytes of a header do not count for it. For a larger message the error is a *MessageTooLongError as soon as its
-// header was read, and of each call from then on: what was read of it is dropped.
+// header was read, and of each call from then on. Trailing has what was read of it and after it.
 func (d *Decoder) SetMaxMessageSize(size uint32) {
 	d.limit, d.hasLimit = size, true
 	// what was found may be larger
@@ -100,6 +102,13 @@ func (d *Decoder) SetNumbering(numbering *Numbering) {
 	d.numbering = numbering
 }
 
+// SetStrict sets whether the end of a stream within an item is an *IncompleteError, which it is without this call. If
+// not, Next returns io.EOF there after all whole items, as for a file that is still being written. Trailing has the
+// bytes of that item, and the next call continues with them.
+func (d *Decoder) SetStrict(strict bool) {
+	d.isLenient = !strict
+}
+
 // NewDecoder returns a decoder of the stream of a version that comes from a reader, which it reads in blocks. For an
 // unknown version, Next returns ErrUnknown.
 func NewDecoder(reader io.Reader, version int) *Decoder {
@@ -107,8 +116,8 @@ func NewDecoder(reader io.Reader, version int) *Decoder {
 }
 
 // Next returns the next item, and reads only if no whole one is there. At the end of the stream the error is io.EOF. If
-// the last item is not whole, it is an *IncompleteError, which wraps io.ErrUnexpectedEOF: errors.Is finds that one. An
-// error of the reader is returned as it is, after all items before it.
+// the last item is not whole, it is an *IncompleteError, which wraps io.ErrUnexpectedEOF: errors.Is finds that one.
+// SetStrict makes it io.EOF too. An error of the reader is returned as it is, after all items before it.
 //
 // None of these loses anything: the next call continues where the stream ended, since a reader may have more by then. A
 // *MessageTooLongError ends the stream, and is the error of each later call.
@@ -118,7 +127,7 @@ func (d *Decoder) Next() (Item, error) {
 		if item != nil || err != nil {
 			return item, err
 		}
-		if err := d.read(missing); err == io.EOF && len(d.rest) > 0 {
+		if err := d.read(missing); err == io.EOF && len(d.rest) > 0 && !d.isLenient {
 			return nil, d.incomplete()
 		} else if err != nil {
 			return nil, err
@@ -150,8 +159,9 @@ func (d *Decoder) Rest() int {
 }
 
 // Trailing returns the bytes that were read and are in no item that Next returned. After an *IncompleteError they are
-// what came of the last item, and a proxy passes them on after the items before it. After a *MessageTooLongError there
-// are none. They are a part of the decoder's block, without a copy. Do not change them if you take further items.
+// what came of the last item, and a proxy passes them on after the items before it. After a *MessageTooLongError they
+// begin with the header of that message. They are a part of the decoder's block, without a copy. Do not change them if
+// you take further items.
 func (d *Decoder) Trailing() []byte {
 	return d.rest[:len(d.rest):len(d.rest)]
 }
@@ -232,7 +242,6 @@ func (d *Decoder) look() (int64, error) {
 		code, length := binary.BigEndian.Uint16(d.rest), binary.BigEndian.Uint32(d.rest[4:])
 		name, _ := TypeName(code)
 		d.ended = &MessageTooLongError{code, name, length, d.limit, d.offset}
-		d.rest = nil
 		return 0, d.ended
 	}
 	if result < 0 {

@@ -451,8 +451,12 @@ func TestMessageTooLong(t *testing.T) {
 		for i := 0; i < 2; i++ {
 			var long *MessageTooLongError
 			wanted := MessageTooLongError{0, "Start", math.MaxUint32, limit, int64(whole)}
-			if !errors.As(err, &long) || *long != wanted || decoder.Rest() != 0 || len(decoder.Trailing()) != 0 {
-				t.Errorf("%v, with %d bytes left, %x", err, decoder.Rest(), decoder.Trailing())
+			if !errors.As(err, &long) || *long != wanted {
+				t.Errorf("the error is %v", err)
+			}
+			trailing := decoder.Trailing()
+			if len(trailing) < headerSize || len(trailing) != decoder.Rest() || !bytes.HasPrefix(stream[whole:], trailing) {
+				t.Errorf("%d bytes left, %x", decoder.Rest(), trailing)
 			}
 			_, err = decoder.Next()
 		}

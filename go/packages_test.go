@@ -16,7 +16,7 @@ import (
 
 // The cases of conformance/packages.cases, which its README specifies: what each kind of line returns for its words.
 var packageCases = map[string]func(t *testing.T, words []string) string{
-	"items": itemsCase, "read": readCase, "as": asCase, "compare": compareCase,
+	"items": itemsCase, "not_strict": notStrictCase, "read": readCase, "as": asCase, "compare": compareCase,
 	"mismatch": mismatchCase, "replay": stepsCase, "rest": restCase, "encode": encodeCase, "message": messageCase,
 	"new": newCase, "decode": decodeCase, "json": jsonCase, "number": numberCase, "name": nameCase, "limit": limitCase,
 }
@@ -216,7 +216,24 @@ func nameOf(name string) string {
 }
 
 func itemsCase(t *testing.T, words []string) string {
+	return loopCase(t, words, true)
+}
+
+func notStrictCase(t *testing.T, words []string) string {
+	return loopCase(t, words, false)
+}
+
+// loopCase returns the items of a stream in these chunks, and how it ends.
+func loopCase(t *testing.T, words []string, isStrict bool) string {
 	version, limit := must(strconv.Atoi(words[0]))(t), words[1]
+	open := func(reader io.Reader) *Decoder {
+		decoder := NewDecoder(reader, version)
+		if limit != "-" {
+			decoder.SetMaxMessageSize(uint32(must(strconv.Atoi(limit))(t)))
+		}
+		decoder.SetStrict(isStrict)
+		return decoder
+	}
 	var readers []io.Reader
 	var stream []byte
 	for _, word := range words[2:] {
@@ -224,9 +241,9 @@ func itemsCase(t *testing.T, words []string) string {
 		stream = append(stream, chunk...)
 		readers = append(readers, bytes.NewReader(chunk))
 	}
-	found := streamCase(t, io.MultiReader(readers...), version, limit, stream)
+	found := streamCase(t, open, io.MultiReader(readers...))
 	for _, reader := range []io.Reader{bytes.NewReader(stream), iotest.OneByteReader(bytes.NewReader(stream))} {
-		if again := streamCase(t, reader, version, limit, stream); again != found {
+		if again := streamCase(t, open, reader); again != found {
 			t.Errorf("in other chunks: %s", again)
 		}
 	}
@@ -234,11 +251,9 @@ func itemsCase(t *testing.T, words []string) string {
 }
 
 // streamCase returns the items of a stream with their offsets, and how it ends.
-func streamCase(t *testing.T, reader io.Reader, version int, limit string, stream []byte) string {
-	decoder := NewDecoder(reader, version)
-	if limit != "-" {
-		decoder.SetMaxMessageSize(uint32(must(strconv.Atoi(limit))(t)))
-	}
+func streamCase(t *testing.T, open func(io.Reader) *Decoder, reader io.Reader) string {
+	var given bytes.Buffer
+	decoder := open(io.TeeReader(reader, &given))
 	items, err := all(decoder)
 	var lines []string
 	var came []byte
@@ -246,17 +261,20 @@ func streamCase(t *testing.T, reader io.Reader, version int, limit string, strea
 		lines = append(lines, fmt.Sprintf("%d %v", item.Offset(), item))
 		came = append(came, item.Bytes()...)
 	}
-	if !bytes.HasPrefix(stream, came) {
-		t.Errorf("the bytes of the items are %x", came)
+	if came = append(came, decoder.Trailing()...); !bytes.Equal(came, given.Bytes()) {
+		t.Errorf("the bytes of the items, and those after them, are %x", came)
 	}
 	if _, again := decoder.Next(); again == nil || again.Error() != err.Error() {
 		t.Errorf("first %v, and then %v", err, again)
 	}
-	ends := []string{endOf(err)}
-	if len(lines) > 0 {
-		ends = []string{strings.Join(lines, ", "), endOf(err)}
+	end := endOf(err)
+	if decoder.isLenient && err == io.EOF {
+		end = fmt.Sprintf("ended %d", decoder.Rest())
 	}
-	return strings.Join(ends, "; ")
+	if len(lines) == 0 {
+		return end
+	}
+	return strings.Join(lines, ", ") + "; " + end
 }
 
 // endOf returns how a stream ends.

@@ -54,6 +54,8 @@ pub struct Decoder {
     numbering: Option<Numbering>,
     /// What it made of the payloads of the last loop.
     kept: Kept,
+    /// Whether the end of a reader within an item is an error of `read`.
+    strict: bool,
 }
 
 /// How far the bytes of a decoder are in the items that were taken.
@@ -100,8 +102,8 @@ impl Decoder {
     /// A decoder of a stream of a version that takes no message whose payload has more bytes than this.
     ///
     /// A longer message is [`Error::MessageTooLong`] as soon as its header came, with its code, the length that the
-    /// header announces, and its offset in the stream. It ends the stream, and what came of it is dropped: from then on
-    /// each iteration, `feed`, `room`, `read_from` and `finish` return this error, and no bytes are pending.
+    /// header announces, and its offset in the stream. It ends the stream: from then on each iteration, `feed`, `room`,
+    /// `read_from` and `finish` return this error. [`Decoder::trailing`] is what was received of it and after it.
     ///
     /// The limit is on the payload. Its header does not count: a message that is over the limit only with these 8 bytes
     /// is taken.
@@ -119,7 +121,7 @@ impl Decoder {
     ///     }
     ///     other => panic!("{other:?}"),
     /// }
-    /// assert_eq!(decoder.trailing(), []);
+    /// assert_eq!(decoder.trailing(), [4, 0, 0, 0, 0, 0, 4, 0]);
     /// assert!(matches!(decoder.feed(&[0]), Err(Error::MessageTooLong(_))));
     /// assert_eq!(decoder.finish(), decoder.feed(&[0]));
     /// # Ok::<(), Error>(())
@@ -139,6 +141,7 @@ impl Decoder {
             },
             numbering: None,
             kept: Kept::default(),
+            strict: true,
         }
     }
 
@@ -173,6 +176,27 @@ impl Decoder {
         self
     }
 
+    /// The decoder whose [`Decoder::read`] has no error if its reader ends within an item: with `false` the iteration
+    /// ends there after all whole items, as for a file that is still being written. By default it is
+    /// [`Error::Incomplete`]. [`Decoder::trailing`] has the bytes of that item, and [`Decoder::finish`] the error.
+    ///
+    /// ```
+    /// use pendratsoa::{Decoder, Version};
+    ///
+    /// let input = &[0, 3, 0, 0, 0, 0, 0, 0, 0, 3][..];
+    /// let mut decoder = Decoder::new(Version::V8).with_strict(false);
+    /// for item in decoder.read(input) {
+    ///     println!("{}", item?);
+    /// }
+    /// assert_eq!(decoder.trailing(), [0, 3]);
+    /// # Ok::<(), std::io::Error>(())
+    /// ```
+    #[must_use]
+    pub fn with_strict(mut self, strict: bool) -> Decoder {
+        self.strict = strict;
+        self
+    }
+
     /// The version of the stream.
     #[must_use]
     pub fn version(&self) -> Version {
@@ -187,7 +211,6 @@ impl Decoder {
 
     /// Appends bytes of the stream to those received. [`Error::OutOfMemory`] leaves these unchanged.
     pub fn feed(&mut self, bytes: &[u8]) -> Result<(), Error> {
-        self.check()?;
         self.make_room(bytes.len())?;
         self.bytes.extend_from_slice(bytes);
         self.end = self.bytes.len();
@@ -251,7 +274,7 @@ impl Decoder {
     ///
     /// An item comes as soon as it is whole. An error of the reader is returned as it is, after all items before it.
     /// The next call reads on. An error of the stream, also that it ended within an item, is an [`io::Error`] with the
-    /// [`Error`] in it, and ends the iteration.
+    /// [`Error`] in it, and ends the iteration. [`Decoder::with_strict`] makes that end none.
     ///
     /// ```
     /// use pendratsoa::{Decoder, Item, Version};
@@ -297,7 +320,6 @@ impl Decoder {
     /// # }
     /// ```
     pub fn room(&mut self, count: usize) -> Result<&mut [u8], Error> {
-        self.check()?;
         self.make_room(count)?;
         self.bytes.resize(self.end + count, 0);
         Ok(&mut self.bytes[self.end..])
@@ -326,32 +348,25 @@ impl Decoder {
     /// # Ok::<(), Error>(())
     /// ```
     pub fn finish(&self) -> Result<(), Error> {
-        match &self.cursor.ended {
-            Some(error) => Err(error.clone()),
-            None => match self.trailing() {
-                [] => Ok(()),
-                rest => Err(Error::Incomplete(Incomplete::of(rest, self.offset()))),
-            },
+        self.check()?;
+        match self.trailing() {
+            [] => Ok(()),
+            rest => Err(Error::Incomplete(Incomplete::of(rest, self.offset()))),
         }
     }
 
-    /// The error that ended the stream, if one did; what came is dropped then.
-    fn check(&mut self) -> Result<(), Error> {
+    /// The error that ended the stream, if one did.
+    fn check(&self) -> Result<(), Error> {
         match &self.cursor.ended {
             None => Ok(()),
-            Some(error) => {
-                let error = error.clone();
-                self.bytes = Vec::new();
-                self.end = 0;
-                self.cursor.drop_taken();
-                Err(error)
-            }
+            Some(error) => Err(error.clone()),
         }
     }
 
-    /// Makes room for more bytes, of this number.
+    /// Makes room for more bytes, of this number; for none once the stream was ended by an error.
     fn make_room(&mut self, count: usize) -> Result<(), Error> {
         self.bytes.truncate(self.end);
+        self.check()?;
         // used bytes are dropped once they are the greater part, so that each byte is moved once on average
         let begin = self.cursor.begin;
         if begin > self.end / 2 {
@@ -415,7 +430,7 @@ impl Decoder {
 
     /// The pending bytes: those received that no item has yet. Once the whole items are taken, they are the beginning
     /// of the next one. At the end of a stream a proxy passes them on after the last item: [`Decoder::finish`] leaves
-    /// them. After [`Error::MessageTooLong`] there are none.
+    /// them. After [`Error::MessageTooLong`] they begin with the header of that message.
     ///
     /// ```
     /// use pendratsoa::{Decoder, Version};
@@ -432,10 +447,7 @@ impl Decoder {
     /// ```
     #[must_use]
     pub fn trailing(&self) -> &[u8] {
-        match self.cursor.ended {
-            None => &self.bytes[self.cursor.begin..self.end],
-            Some(_) => &[],
-        }
+        &self.bytes[self.cursor.begin..self.end]
     }
 }
 
@@ -579,6 +591,7 @@ impl<R: Read> Iterator for ReadItems<'_, R> {
                 None => {}
             }
             match self.decoder.read_from(&mut self.reader) {
+                Ok(0) if !self.decoder.strict => return self.end(Ok(())),
                 Ok(0) => {
                     let finished = self.decoder.finish();
                     return self.end(finished);

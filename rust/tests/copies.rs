@@ -229,8 +229,8 @@ fn a_message_that_is_longer_than_the_limit_ends_the_stream() {
             error.to_string(),
             "a message of type InputCommand (0x0400) at offset 8 has 10 bytes, more than the limit of 9"
         );
-        assert_eq!((decoder.offset(), decoder.rest()), (8, 0));
-        assert_eq!(decoder.trailing(), []);
+        assert_eq!((decoder.offset(), decoder.rest()), (8, 9));
+        assert_eq!(decoder.trailing(), &stream[8..]);
         match takes {
             0 => assert_eq!(decoder.feed(&[0]), Err(error.clone())),
             1 => assert_eq!(decoder.room(1), Err(error.clone())),
@@ -240,9 +240,9 @@ fn a_message_that_is_longer_than_the_limit_ends_the_stream() {
                 assert_eq!(found.kind(), io::ErrorKind::InvalidData);
             }
         }
-        assert_eq!(decoder.rest(), 0);
+        assert_eq!(decoder.trailing(), &stream[8..]);
         decoder.advance(1);
-        assert_eq!(decoder.rest(), 0);
+        assert_eq!(decoder.trailing(), &stream[8..]);
         assert_eq!(decoder.finish(), Err(error.clone()));
         assert_eq!(decoder.items().next(), Some(Err(error.clone())));
     }

@@ -3,7 +3,7 @@
 use std::cell::RefCell;
 use std::collections::{BTreeSet, HashMap};
 use std::fs;
-use std::io::{self, Cursor, Read};
+use std::io::{self, Read};
 
 use pendratsoa::messages::{
     EndMessage, InputCommandMessage, MessageRecord, SetStateCommandMessage, SleepCommandMessage,
@@ -80,13 +80,11 @@ fn end(finished: Result<(), Error>) -> String {
 }
 
 /// Lines of items, and how their stream ends.
-fn listing(lines: &[String], finished: Result<(), Error>) -> String {
-    let mut parts = Vec::new();
-    if !lines.is_empty() {
-        parts.push(lines.join(", "));
+fn listing(lines: &[String], end: &str) -> String {
+    match lines {
+        [] => end.to_owned(),
+        lines => format!("{}; {end}", lines.join(", ")),
     }
-    parts.push(end(finished));
-    parts.join("; ")
 }
 
 fn line(item: &Item<'_>) -> String {
@@ -100,9 +98,9 @@ fn decoder(version: Version, limit: Option<u32>) -> Decoder {
     }
 }
 
-/// The result of a stream in chunks that are fed.
+/// The result of a stream in chunks that are fed. The items and the trailing bytes are what was fed.
 fn fed(mut decoder: Decoder, chunks: &[&[u8]]) -> String {
-    let (mut lines, mut came) = (Vec::new(), Vec::new());
+    let (mut lines, mut came, mut given) = (Vec::new(), Vec::new(), Vec::new());
     let mut take = |decoder: &mut Decoder| -> Result<(), Error> {
         for item in decoder.items() {
             let item = item?;
@@ -113,6 +111,7 @@ fn fed(mut decoder: Decoder, chunks: &[&[u8]]) -> String {
     };
     let fed = chunks.iter().try_for_each(|chunk| {
         decoder.feed(chunk)?;
+        given.extend_from_slice(chunk);
         take(&mut decoder)
     });
     if let Err(error) = &fed {
@@ -122,23 +121,48 @@ fn fed(mut decoder: Decoder, chunks: &[&[u8]]) -> String {
         assert_eq!(decoder.finish(), Err(error.clone()));
     }
     let finished = fed.and_then(|()| decoder.finish());
-    assert!(chunks.concat().starts_with(&came));
-    listing(&lines, finished)
+    came.extend_from_slice(decoder.trailing());
+    assert_eq!(came, given);
+    listing(&lines, &end(finished))
 }
 
-/// The result of a stream that is read.
-fn read(mut decoder: Decoder, reader: impl Read) -> String {
-    let mut lines = Vec::new();
+/// The lines of a stream that is read, and how that ends. The items and the trailing bytes are what was read.
+fn read(decoder: &mut Decoder, reader: impl Read) -> (Vec<String>, Result<(), Error>) {
+    let (mut lines, mut came, mut given) = (Vec::new(), Vec::new(), Given(reader, Vec::new()));
     let mut finished = Ok(());
-    let mut items = decoder.read(reader);
+    let mut items = decoder.read(&mut given);
     for item in &mut items {
         match item {
-            Ok(item) => lines.push(line(&item.item())),
+            Ok(item) => {
+                lines.push(line(&item.item()));
+                item.item().append_to(&mut came).unwrap();
+            }
             Err(error) => finished = Err(of(&error)),
         }
     }
     assert!(items.next().is_none());
-    listing(&lines, finished)
+    came.extend_from_slice(decoder.trailing());
+    assert_eq!(came, given.1);
+    (lines, finished)
+}
+
+/// The result of a stream that is read.
+fn read_result(mut decoder: Decoder, reader: impl Read) -> String {
+    let (lines, finished) = read(&mut decoder, reader);
+    listing(&lines, &end(finished))
+}
+
+/// The result of a loop that is not strict.
+fn not_strict(decoder: Decoder, reader: impl Read) -> String {
+    let mut decoder = decoder.with_strict(false);
+    let (lines, finished) = read(&mut decoder, reader);
+    // the setting is of the loop only
+    assert_eq!(decoder.finish().is_ok(), decoder.rest() == 0);
+    let ended = match finished {
+        Ok(()) => format!("ended {}", decoder.rest()),
+        Err(error) => end(Err(error)),
+    };
+    listing(&lines, &ended)
 }
 
 /// The error that an error of a reader holds.
@@ -150,6 +174,17 @@ fn of(error: &io::Error) -> Error {
     };
     assert_eq!(error.kind(), kind);
     held.clone()
+}
+
+/// A reader, and what it has given.
+struct Given<R>(R, Vec<u8>);
+
+impl<R: Read> Read for Given<R> {
+    fn read(&mut self, room: &mut [u8]) -> io::Result<usize> {
+        let count = self.0.read(room)?;
+        self.1.extend_from_slice(&room[..count]);
+        Ok(count)
+    }
 }
 
 /// A reader that gives a byte at a time.
@@ -173,8 +208,23 @@ fn items_case(words: &[&str]) -> String {
     for other in [&[&stream[..]][..], &bytewise] {
         assert_eq!(fed(decoder(version, limit), other), found);
     }
-    assert_eq!(read(decoder(version, limit), Cursor::new(&stream)), found);
-    assert_eq!(read(decoder(version, limit), Bytewise(&stream)), found);
+    assert_eq!(read_result(decoder(version, limit), &stream[..]), found);
+    assert_eq!(
+        read_result(decoder(version, limit), Bytewise(&stream)),
+        found
+    );
+    found
+}
+
+fn not_strict_case(words: &[&str]) -> String {
+    let version = words[0].parse().unwrap();
+    let limit = words[1].parse().ok();
+    let stream: Vec<u8> = words[2..].iter().flat_map(|word| bytes(word)).collect();
+    let found = not_strict(decoder(version, limit), &stream[..]);
+    assert_eq!(
+        not_strict(decoder(version, limit), Bytewise(&stream)),
+        found
+    );
     found
 }
 
@@ -486,6 +536,7 @@ fn result_of(words: &[&str]) -> String {
     let (kind, words) = (words[0], &words[1..]);
     match kind {
         "items" => items_case(words),
+        "not_strict" => not_strict_case(words),
         "read" => read_case(words),
         "as" => as_case(words),
         "compare" => compare_case(words),

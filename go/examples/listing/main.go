@@ -40,11 +40,11 @@ func versionOf(arguments []string) (int, error) {
 func list(input io.Reader, version int, output io.Writer) error {
 	lines := bufio.NewWriter(output)
 	decoder := pendratsoa.NewDecoder(input, version)
+	// the last line counts the bytes of an item that is not whole
+	decoder.SetStrict(false)
 	for {
 		item, err := decoder.Next()
-		// a reader may itself return io.ErrUnexpectedEOF
-		var incomplete *pendratsoa.IncompleteError
-		if err == io.EOF || errors.As(err, &incomplete) {
+		if err == io.EOF {
 			break
 		} else if err != nil {
 			return err

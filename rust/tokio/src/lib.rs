@@ -30,14 +30,14 @@ use tokio_util::codec::{Decoder, Encoder};
 #[derive(Clone, Debug)]
 pub struct ItemCodec {
     decoder: pendratsoa::Decoder,
+    strict: bool,
 }
 
 impl ItemCodec {
     /// A codec of a stream of a version, without a limit on the size of a message.
     #[must_use]
     pub fn new(version: Version) -> ItemCodec {
-        let decoder = pendratsoa::Decoder::new(version);
-        ItemCodec { decoder }
+        ItemCodec::of(pendratsoa::Decoder::new(version))
     }
 
     /// A codec of a stream of a version that takes no message whose payload has more bytes than this. A longer message
@@ -45,8 +45,14 @@ impl ItemCodec {
     /// from then on. The header does not count.
     #[must_use]
     pub fn with_max_message_size(version: Version, size: u32) -> ItemCodec {
-        let decoder = pendratsoa::Decoder::with_max_message_size(version, size);
-        ItemCodec { decoder }
+        ItemCodec::of(pendratsoa::Decoder::with_max_message_size(version, size))
+    }
+
+    fn of(decoder: pendratsoa::Decoder) -> ItemCodec {
+        ItemCodec {
+            decoder,
+            strict: true,
+        }
     }
 
     /// The codec of a stream whose payloads are at the field numbers of a descriptor set, as
@@ -54,12 +60,19 @@ impl ItemCodec {
     #[must_use]
     pub fn with_numbering(self, numbering: &Numbering) -> ItemCodec {
         let decoder = self.decoder.with_numbering(numbering);
-        ItemCodec { decoder }
+        ItemCodec { decoder, ..self }
+    }
+
+    /// The codec for which the end of a stream within an item is not an error with `false`, as
+    /// [`pendratsoa::Decoder::with_strict`]. [`ItemCodec::trailing`] has the bytes of that item.
+    #[must_use]
+    pub fn with_strict(self, strict: bool) -> ItemCodec {
+        ItemCodec { strict, ..self }
     }
 
     /// The bytes that the codec keeps: those taken out of the buffer that no item has yet. After the error that the
     /// stream ended within an item, they are what a proxy passes on after the last item. After
-    /// [`Error::MessageTooLong`](pendratsoa::Error::MessageTooLong) there are none.
+    /// [`Error::MessageTooLong`](pendratsoa::Error::MessageTooLong) they begin with the header of that message.
     #[must_use]
     pub fn trailing(&self) -> &[u8] {
         self.decoder.trailing()
@@ -85,10 +98,10 @@ impl Decoder for ItemCodec {
     }
 
     /// The next item; after the last one `None`, or [`Error::Incomplete`](pendratsoa::Error::Incomplete) where the
-    /// stream ended within an item.
+    /// stream ended within an item, if the codec is strict.
     fn decode_eof(&mut self, source: &mut BytesMut) -> io::Result<Option<OwnedItem>> {
         let item = self.decode(source)?;
-        if item.is_none() {
+        if item.is_none() && self.strict {
             self.decoder.finish()?;
         }
         Ok(item)
@@ -170,6 +183,9 @@ mod tests {
             assert_eq!(error.kind(), io::ErrorKind::UnexpectedEof);
             assert_eq!(held(&error).offset(), Some(8));
             assert_eq!(codec.trailing(), &STREAM[8..end]);
+            let mut codec = ItemCodec::new(Version::V8).with_strict(false);
+            assert_eq!(decoded(&mut codec, &STREAM[..end], 5).unwrap().len(), 1);
+            assert_eq!(codec.trailing(), &STREAM[8..end]);
         }
     }
 
@@ -203,7 +219,7 @@ mod tests {
             assert!(matches!(held(&error), Error::MessageTooLong(error) if error.offset == 8));
             assert!(buffer.is_empty());
             buffer.extend_from_slice(&[1]);
-            assert_eq!(codec.trailing(), []);
+            assert_eq!(codec.trailing(), &STREAM[8..16]);
         }
         assert!(codec.decode_eof(&mut buffer).is_err());
     }
