@@ -297,8 +297,8 @@ export class Skipped {
 export interface StreamOptions {
   /**
    * The greatest size of a payload in bytes; without it there is no limit. The 8 bytes of a header do not count. A
-   * message with a larger payload is a `MessageTooLong` as soon as its header came, and ends the stream: what came is
-   * dropped, and from then on each loop, `feed` and `finish` throw that error.
+   * message with a larger payload is a `MessageTooLong` as soon as its header came, and ends the stream: from then on
+   * each loop, `feed` and `finish` throw that error, and `trailing` has what was received of the message and after it.
    */
   maxMessageSize?: number | undefined;
 
@@ -307,6 +307,15 @@ export interface StreamOptions {
    * that cannot be read is `Malformed`, with the type and the offset of its message; the next loop goes on after it.
    */
   numbering?: Numbering | undefined;
+}
+
+/** What a loop over a source takes. Any other name is a `TypeError`. */
+export interface SourceOptions extends StreamOptions {
+  /**
+   * Whether it is an error, `Incomplete`, if the source ends within an item; by default it is. With `false` the loop
+   * ends there after all whole items, as for a file that is still being written, and leaves out the bytes of that item.
+   */
+  strict?: boolean | undefined;
 }
 
 /** What a frame is written by. Any other name is a `TypeError`. */
@@ -338,7 +347,8 @@ export class Stream implements Iterable<Item> {
 
   /**
    * A copy of the pending bytes. Once the whole items are taken, they are the beginning of the next one. At the end of
-   * a stream a proxy passes them on after the last item: `finish` leaves them. After a `MessageTooLong` there are none.
+   * a stream a proxy passes them on after the last item: `finish` leaves them. After a `MessageTooLong` they begin with
+   * the header of that message.
    */
   get trailing(): Uint8Array;
 
@@ -358,24 +368,26 @@ export class Stream implements Iterable<Item> {
 }
 
 /**
- * Decodes chunks into items. The transformed stream fails with `Incomplete` if it ends within an item.
+ * Decodes chunks into items: a readable and a writable stream, for `pipeThrough`. Each item is decoded as it is read.
+ * After all whole items the transformed stream fails with `Incomplete` if it ends within an item, unless the options
+ * have `strict: false`.
  * @param version the protocol version, by default 8
  * @throws {Unknown} it is not a protocol version
  */
-export function decode(version?: number, options?: StreamOptions): TransformStream<Uint8Array, Item>;
+export function decode(version?: number, options?: SourceOptions): TransformStream<Uint8Array, Item>;
 
 /**
  * The items of the chunks of a source: a readable stream of Node or of the web, or anything else that can be iterated.
  * A synchronous one, as `[bytes]`, is for what is there as a whole; a `Stream` gives its items without `await`.
- * It throws `Incomplete` if the source ends within an item, and whatever the source throws. A loop that ends early
- * closes the source.
+ * It throws `Incomplete` if the source ends within an item, unless the options have `strict: false`, and whatever the
+ * source throws. A loop that ends early closes the source.
  * @param version the protocol version, by default 8
  * @throws {Unknown} it is not a protocol version
  */
 export function items(
   source: AsyncIterable<Uint8Array> | Iterable<Uint8Array>,
   version?: number,
-  options?: StreamOptions,
+  options?: SourceOptions,
 ): AsyncGenerator<Item, void, undefined>;
 
 // Names and numbers.
@@ -803,6 +815,9 @@ export class MessageTooLong extends TooLong {
 
   /** Where its header begins in the stream, in bytes. */
   readonly offset: number;
+
+  /** What was received from its header on, not enumerable. */
+  readonly trailing: Uint8Array;
 }
 
 /** A number or a name does not exist, or is not of the kind that the call is for. */

@@ -61,22 +61,23 @@ function remembered(map, key, call) {
   return value;
 }
 
-/** What is remembered of a named type at a version. */
-function typeOf(version, code) {
+/** What is remembered of a named type at a version, for a call, which an error names. */
+function typeOf(version, code, call) {
   const found = foundIn(typesOf, version, code);
   if (found !== undefined) {
     return found;
   }
-  const number = checked(addon.schema(version, code), { call: 'schema', version, code });
+  const number = checked(addon.schema(version, code), { call, version, code });
   return remember(typesOf, version, code, { code, schema: number, high: undefined });
 }
 
 /** The same of a type by its name, or by its code. */
-export function typeNamed(version, name) {
+export function typeNamed(version, name, call) {
   if (typeof name !== 'string') {
-    return typeOf(version, name);
+    return typeOf(version, name, call);
   }
-  return foundIn(namedOf, version, name) ?? remember(namedOf, version, name, typeOf(version, typeCode(name)));
+  const found = foundIn(namedOf, version, name);
+  return found ?? remember(namedOf, version, name, typeOf(version, codeNamed(name, call), call));
 }
 
 /** What is remembered of a key at a version, which is a number. */
@@ -92,7 +93,7 @@ function remember(types, version, key, type) {
 }
 
 export function schema(version, code) {
-  return typeOf(version, code).schema;
+  return typeOf(version, code, 'schema').schema;
 }
 
 /** The upper half of the header of a named type at a version. The lower one is the length of the payload. */
@@ -128,8 +129,12 @@ export function typeCode(name) {
   if (typeof name !== 'string') {
     throw wrongKind('name', name, 'a string');
   }
-  const given = { call: 'typeCode', name };
-  return remembered(codesOf, name, () => checked(addon.typeCode(encoder.encode(name)), given));
+  return codeNamed(name, 'typeCode');
+}
+
+/** The code of a type by its name, for a call, which an error names. */
+function codeNamed(name, call) {
+  return remembered(codesOf, name, () => checked(addon.typeCode(encoder.encode(name)), { call, name }));
 }
 
 /** The name of a type, or its code where a message was made with one that no type has. */
@@ -214,7 +219,12 @@ export function toJson(schema, payload) {
 }
 
 export function fromJson(schema, json) {
-  const given = { call: 'fromJson', schema, json };
+  return payloadOfJson('fromJson', schema, json);
+}
+
+/** The same for a call, which an error names. */
+export function payloadOfJson(name, schema, json) {
+  const given = { call: name, schema, json };
   const number = known(schema, given);
   const utf8 = typeof json === 'string' ? utf8Of(json) : json;
   const call = (out) => addon.payloadOfJson(number, utf8, readNumbers, out);

@@ -67,12 +67,13 @@ export class MessageTooLong extends TooLong {
     identify(this, 'JOURNAL_TOO_LONG');
   }
 
-  constructor(message, { typeCode, length, limit, offset, ...details } = {}) {
+  constructor(message, { typeCode, length, limit, offset, trailing, ...details } = {}) {
     super(message, details);
     this.typeCode = typeCode;
     this.length = length;
     this.limit = limit;
     this.offset = offset;
+    hide(this, 'trailing', trailing);
   }
 }
 
@@ -321,8 +322,8 @@ export function noNumbering({ call, set }, { reason, text }) {
   return new NumberingError(`${call}: ${said}: ${escaped(text)}`, { call, ...details, reason, text });
 }
 
-/** The error of a message that is longer than the limit of its stream, by what its header says, and by its offset. */
-export function messageTooLong({ call, maxMessageSize: limit }, { name, typeCode, length, offset }) {
+/** The error of a message that is longer than the limit of its stream: what its header says, its offset, what came. */
+export function messageTooLong({ call, maxMessageSize: limit }, { name, typeCode, length, offset }, trailing) {
   const type = name === undefined ? codeText(typeCode) : `${name} (${codeText(typeCode)})`;
   const what = `a message of type ${type} at offset ${offset} has ${length} bytes`;
   return new MessageTooLong(`${what}, more than the limit of ${limit}`, {
@@ -333,6 +334,7 @@ export function messageTooLong({ call, maxMessageSize: limit }, { name, typeCode
     length,
     limit,
     offset,
+    trailing,
   });
 }
 

@@ -7,11 +7,11 @@ import {
   checked,
   frame,
   frameInto,
-  fromJson,
   highFor,
   highOf,
   nameOf,
   notification,
+  payloadOfJson,
   requestsAck,
   schema,
   schemaOf,
@@ -77,7 +77,7 @@ export class Message {
   }
 
   static of(type, record, version = 8) {
-    const found = typeNamed(version, type);
+    const found = typeNamed(version, type, 'Message.of');
     if (found.schema >= RECORDS.length) {
       throw notKnown('Message.of', 'schema', found.schema);
     }
@@ -85,8 +85,9 @@ export class Message {
   }
 
   static fromJson(type, json, version = 8) {
-    const found = typeNamed(version, type);
-    return made(version, found, fromJson(found.schema, isPlainObject(json) ? JSON.stringify(json) : json));
+    const found = typeNamed(version, type, 'Message.fromJson');
+    const text = isPlainObject(json) ? JSON.stringify(json) : json;
+    return made(version, found, payloadOfJson('Message.fromJson', found.schema, text));
   }
 
   get word() {

@@ -3,7 +3,7 @@
 import { addon } from './addon.js';
 import { checked, nameIfAny, nameOf } from './calls.js';
 import { ITEM, ITEM_KINDS, ITEM_NUMBERS } from './declared.js';
-import { Malformed, TooLong, incomplete, messageTooLong, notKnown } from './errors.js';
+import { Malformed, TooLong, incomplete, messageTooLong, notKnown, wrongKind } from './errors.js';
 import { messageThatCame, skippedThatCame, unknownCodeThatCame, wordOf } from './items.js';
 import { optionsOf } from './options.js';
 import { LONG, Run, copied, roomFor } from './pool.js';
@@ -14,6 +14,8 @@ const NOTHING = new Uint8Array(0);
 const HEADER_SIZE = 8;
 const CODE_SIZE = 2;
 const NO_LIMIT = 0xffffffff;
+
+const STREAM_OPTIONS = ['maxMessageSize', 'numbering'];
 
 // How many items are looked for at once, since a call costs more than finding one; and in how many bytes, which are
 // copied for it, except an item that is longer.
@@ -29,6 +31,9 @@ const NONE_FOUND = new Uint32Array(0);
 
 /** Throws if a stream has trailing bytes. */
 let atEnd;
+
+/** The next item of a stream, or undefined. */
+let nextOf;
 
 /** A stream that comes in chunks. */
 export class Stream {
@@ -52,10 +57,11 @@ export class Stream {
 
   static {
     atEnd = (stream, call) => stream.#atEnd(call);
+    nextOf = (stream) => stream.#take();
   }
 
   constructor(version = 8, options) {
-    const { maxMessageSize, numbering } = optionsOf(options, ['maxMessageSize', 'numbering']);
+    const { maxMessageSize, numbering } = optionsOf(options, STREAM_OPTIONS);
     this.#version = version;
     this.#limit = maxMessageSize;
     this.#numbering = numberingOf({ numbering });
@@ -139,15 +145,14 @@ export class Stream {
     return false;
   }
 
-  /** What is not an error. A message that is longer than the limit ends the stream: what came of it is dropped. */
+  /** What is not an error. A message that is longer than the limit ends the stream: its bytes stay in the rest. */
   #refused(returned, bytes) {
     const given = { call: 'Stream', version: this.#version, maxMessageSize: this.#limit };
     try {
       return checked(returned, given);
     } catch (error) {
       if (error instanceof TooLong) {
-        this.#ended = messageTooLong(given, this.#announced(bytes));
-        this.#clear();
+        this.#ended = messageTooLong(given, this.#announced(bytes), this.trailing);
         throw this.#ended;
       }
       throw error;
@@ -293,31 +298,69 @@ export function restOf(version, bytes) {
   return bytes.length - begin;
 }
 
-/** Decodes chunks into items. */
+/** Decodes chunks into items, each as it is read: a stream that fails loses what is in its queue. */
 export function decode(version = 8, options) {
-  const stream = new Stream(version, options);
-  return new TransformStream({
+  const { stream, strict } = streamOf(version, options);
+  const fed = new TransformStream({
     transform(chunk, controller) {
       stream.feed(chunk);
-      for (const item of stream) {
-        controller.enqueue(item);
-      }
-    },
-    flush() {
-      atEnd(stream, 'decode');
+      controller.enqueue(chunk);
     },
   });
+  const reader = fed.readable.getReader();
+  const source = {
+    async pull(controller) {
+      try {
+        const item = await nextWithin(stream, reader);
+        if (item !== undefined) {
+          controller.enqueue(item);
+          return;
+        }
+        if (strict) {
+          atEnd(stream, 'decode');
+        }
+        controller.close();
+      } catch (error) {
+        // no more chunks are taken; what has failed itself fails here too
+        reader.cancel(error).catch(() => {});
+        throw error;
+      }
+    },
+    cancel: (reason) => reader.cancel(reason),
+  };
+  return { readable: new ReadableStream(source, { highWaterMark: 0 }), writable: fed.writable };
+}
+
+/** The next item of a stream, which is fed with the chunks of a reader meanwhile; undefined where these end. */
+async function nextWithin(stream, reader) {
+  for (;;) {
+    const item = nextOf(stream);
+    if (item !== undefined || (await reader.read()).done) {
+      return item;
+    }
+  }
 }
 
 /** The items of the chunks of a source. */
 export function items(source, version = 8, options) {
-  return itemsOf(new Stream(version, options), source);
+  return itemsOf(streamOf(version, options), source);
 }
 
-async function* itemsOf(stream, source) {
+async function* itemsOf({ stream, strict }, source) {
   for await (const chunk of source) {
     stream.feed(chunk);
     yield* stream;
   }
-  atEnd(stream, 'items');
+  if (strict) {
+    atEnd(stream, 'items');
+  }
+}
+
+/** The stream of a source, and whether it is an error if that ends within an item. */
+function streamOf(version, options) {
+  const { maxMessageSize, numbering, strict = true } = optionsOf(options, [...STREAM_OPTIONS, 'strict']);
+  if (typeof strict !== 'boolean') {
+    throw wrongKind('strict', strict, 'a boolean');
+  }
+  return { stream: new Stream(version, { maxMessageSize, numbering }), strict };
 }

@@ -148,14 +148,19 @@ test('names of types and options of the wrong kind', () => {
     assert.throws(() => pendratsoa.headerEq(0x0400, NONE, NONE, { ignorePayloads }), wrong);
     assert.throws(() => pendratsoa.compareJournals(8, NONE, NONE, { ignorePayloads }), wrong);
   }
+  for (const strict of [0, 1, 'no', null, {}, 1n]) {
+    const wrong = { name: 'TypeError', code: 'ERR_INVALID_ARG_TYPE', message: mentions('strict') };
+    assert.throws(() => pendratsoa.items([], 8, { strict }), wrong);
+    assert.throws(() => pendratsoa.decode(8, { strict }), wrong);
+  }
   assert.throws(() => pendratsoa.headerEq(0x0400, NONE, NONE, null), TypeError);
 });
 
 // Each call that takes options, with a function of them and their names.
 const WITH_OPTIONS = [
   [(options) => new pendratsoa.Stream(8, options), ['maxMessageSize', 'numbering']],
-  [(options) => pendratsoa.decode(8, options), ['maxMessageSize', 'numbering']],
-  [(options) => pendratsoa.items([], 8, options), ['maxMessageSize', 'numbering']],
+  [(options) => pendratsoa.decode(8, options), ['maxMessageSize', 'numbering', 'strict']],
+  [(options) => pendratsoa.items([], 8, options), ['maxMessageSize', 'numbering', 'strict']],
   [(options) => pendratsoa.frame(8, 0x0400, NONE, options), ['numbering']],
   [(options) => pendratsoa.frameInto(8, 0x0400, NONE, new Uint8Array(8), options), ['numbering']],
   [(options) => new pendratsoa.Message(8, 0x0400, NONE).frame(8, options), ['numbering']],

@@ -197,7 +197,11 @@ test('messages of JSON', () => {
   assert.deepEqual(message, new Message(8, PROPOSE_RUN_COMPLETION, hex('0801720178')));
   assert.deepEqual(Message.fromJson(message.code, message.json()), message);
   assert.deepEqual(Message.fromJson(SUSPENSION, { waitingCompletions: [1] }, 6).payload, hex('0a0101'));
-  assert.throws(() => Message.fromJson(SUSPENSION, { waitingCompletions: [1] }, 7), pendratsoa.JsonError);
+  assert.throws(() => Message.fromJson(SUSPENSION, { waitingCompletions: [1] }, 7), {
+    name: 'JsonError',
+    call: 'Message.fromJson',
+    message: 'Message.fromJson: json of 26 bytes: waitingCompletions: unknown member',
+  });
   assert.throws(() => Message.fromJson(CUSTOM_ENTRY, '{}'), pendratsoa.Unknown);
   assert.throws(() => Message.fromJson('Sleep', '{}'), pendratsoa.Unknown);
   assert.throws(() => Message.fromJson(SUSPENSION, '{}', 4), pendratsoa.Unknown);
@@ -423,6 +427,10 @@ test('what does not exist is named', () => {
     ],
     [() => pendratsoa.typeName(-1), 'typeName: unknown code -1, or not of the kind that the call is for'],
     [() => new Message(4, 0, none), 'Message: unknown protocol version 4 (5 to 9)'],
+    [() => Message.of('End', {}, 4), 'Message.of: unknown protocol version 4 (5 to 9)'],
+    [() => Message.of('Sleep', {}), "Message.of: unknown name 'Sleep'"],
+    [() => Message.fromJson('End', '{}', 4), 'Message.fromJson: unknown protocol version 4 (5 to 9)'],
+    [() => Message.fromJson('Sleep', '{}'), "Message.fromJson: unknown name 'Sleep'"],
   ]) {
     assert.throws(call, { name: 'Unknown', message });
   }
@@ -432,10 +440,13 @@ test('what is logged of an error', () => {
   const given = Buffer.from('\nSECRET');
   const stream = new pendratsoa.Stream();
   stream.feed(given);
+  const limited = new pendratsoa.Stream(8, { maxMessageSize: 1 });
+  limited.feed(joined(hex('0400000000000009'), given));
   for (const [call, name] of [
     [() => pendratsoa.canonical('Value', given), 'value'],
     [() => pendratsoa.fromJson('Value', '["SECRET"]'), 'value'],
     [() => stream.finish(), 'trailing'],
+    [() => [...limited], 'trailing'],
   ]) {
     assert.throws(call, (error) => {
       assert.ok(Buffer.from(error[name]).includes('SECRET'));

@@ -21,6 +21,7 @@ import {
   Unknown,
   UnknownCode,
   compareJournals,
+  decode,
   isWellFormed,
   items,
   readRecord,
@@ -173,10 +174,11 @@ function thrown(call) {
 function streamed(version, maxMessageSize, chunks) {
   const options = maxMessageSize === undefined ? {} : { maxMessageSize };
   const stream = new Stream(version, options);
-  const found = [];
+  const [found, fed] = [[], []];
   const ended = thrown(() => {
     for (const chunk of chunks) {
       stream.feed(chunk);
+      fed.push(chunk);
       found.push(...taken(stream, found));
     }
     stream.finish();
@@ -184,8 +186,8 @@ function streamed(version, maxMessageSize, chunks) {
   if (ended !== undefined) {
     assert.equal(String(thrown(() => stream.finish())), String(ended));
   }
-  const came = joined(...found.map((item) => item.bytes));
-  assert.deepEqual(came, joined(...chunks).slice(0, came.length));
+  assert.deepEqual(joined(...found.map((item) => item.bytes), stream.trailing), joined(...fed));
+  assert.deepEqual(ended?.trailing ?? hex(''), stream.trailing);
   return listing(found, ended);
 }
 
@@ -205,23 +207,39 @@ function taken(stream, found) {
   throw failed;
 }
 
-function listing(found, ended) {
+function listing(found, ended, end = 'whole') {
   const lines = found.map((item) => `${item.offset} ${item}`).join(', ');
-  return [...(lines === '' ? [] : [lines]), ended === undefined ? 'whole' : endOf(ended)].join('; ');
+  return [...(lines === '' ? [] : [lines]), ended === undefined ? end : endOf(ended)].join('; ');
 }
 
-/** The lines of the items of a source, and how it ends. */
-async function sourced(version, maxMessageSize, chunks) {
-  const options = maxMessageSize === undefined ? {} : { maxMessageSize };
+/** The lines of the items of a source, by a function that has them, and how it ends. */
+async function sourced(version, options, chunks, itemsIn = items) {
   const found = [];
+  let ended;
   try {
-    for await (const item of items(chunks, version, options)) {
+    for await (const item of itemsIn(chunks, version, options)) {
       found.push(item);
     }
   } catch (error) {
-    return listing(found, error);
+    ended = error;
   }
-  return listing(found, undefined);
+  const whole = joined(...chunks);
+  const came = joined(...found.map((item) => item.bytes), ended?.trailing ?? hex(''));
+  assert.deepEqual(came, whole.slice(0, came.length));
+  return listing(found, ended, options.strict === false ? `ended ${whole.length - came.length}` : 'whole');
+}
+
+/** The items of chunks that a transform stream decodes. */
+function transformed(chunks, version, options) {
+  const source = new ReadableStream({
+    start(controller) {
+      for (const chunk of chunks) {
+        controller.enqueue(chunk);
+      }
+      controller.close();
+    },
+  });
+  return source.pipeThrough(decode(version, options));
 }
 
 /** The items of a stream that is there as a whole. */
@@ -262,7 +280,18 @@ const KINDS = {
     const found = streamed(...given, chunks);
     for (const other of [[stream], chunksOf(stream, 1)]) {
       assert.equal(streamed(...given, other), found);
-      assert.equal(await sourced(...given, other), found);
+      assert.equal(await sourced(given[0], { maxMessageSize: given[1] }, other), found);
+    }
+    return found;
+  },
+
+  async not_strict(version, limit, ...words) {
+    const chunks = words.map(bytesOf);
+    const options = { strict: false, maxMessageSize: limit === '-' ? undefined : Number(limit) };
+    const found = await sourced(Number(version), options, chunks);
+    for (const other of [chunks, chunksOf(joined(...chunks), 1)]) {
+      assert.equal(await sourced(Number(version), options, other), found);
+      assert.equal(await sourced(Number(version), options, other, transformed), found);
     }
     return found;
   },

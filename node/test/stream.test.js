@@ -40,6 +40,30 @@ class Source {
   }
 }
 
+/** A stream of the web over a source. Node's own may fail once it is cancelled. */
+function webStream(source) {
+  const chunks = source[Symbol.asyncIterator]();
+  return new ReadableStream({
+    async pull(controller) {
+      const { done, value } = await chunks.next();
+      if (done) {
+        controller.close();
+      } else {
+        controller.enqueue(value);
+      }
+    },
+    cancel: () => chunks.return(),
+  });
+}
+
+/** Whether a source is closed, which a chain of streams does some turns later. */
+async function isClosedSoon(source) {
+  for (let turn = 0; turn < 1000 && !source.isClosed; turn += 1) {
+    await new Promise(setImmediate);
+  }
+  return source.isClosed;
+}
+
 async function collect(source) {
   const found = [];
   for await (const item of source) {
@@ -295,6 +319,21 @@ test('a source that ends within an item', async () => {
   assert.deepEqual(found, ITEMS);
 });
 
+test('a source that may end within an item', async () => {
+  const options = { strict: false };
+  for (const size of [1, 7, STREAM.length]) {
+    const source = new Source(...chunksOf(STREAM, size));
+    assert.deepEqual(await collect(items(source, 8, options)), ITEMS);
+    const chunks = Readable.toWeb(Readable.from(chunksOf(STREAM, size)));
+    assert.deepEqual(await collect(chunks.pipeThrough(decode(8, options))), ITEMS);
+  }
+  // any other error is thrown as before
+  const failure = new Error('the source failed');
+  await assert.rejects(collect(items(new Source(STREAM, failure), 8, options)), failure);
+  const limited = { ...options, maxMessageSize: INPUT.length - 9 };
+  await assert.rejects(collect(items([STREAM], 8, limited)), { name: 'MessageTooLong', offset: 0 });
+});
+
 test('a stream that ends within the header of an item', () => {
   for (const [rest, typeCode, name, came] of [
     ['04', undefined, 'an item', '1 byte'],
@@ -350,6 +389,34 @@ test('a transform stream that ends within an item', async () => {
   await assert.rejects(reader.read(), { name: 'Incomplete', call: 'decode' });
 });
 
+test('a transform stream has all items before an error, also where they are read late', async () => {
+  for (const [name, options] of [
+    ['Incomplete', {}],
+    ['MessageTooLong', { maxMessageSize: INPUT.length - 8 }],
+  ]) {
+    const found = [];
+    const source = new Source(STREAM);
+    const read = async () => {
+      for await (const item of webStream(source).pipeThrough(decode(8, options))) {
+        found.push(item);
+        await new Promise(setImmediate);
+      }
+    };
+    await assert.rejects(read, { name, offset: INPUT.length + 8, trailing: STREAM.slice(-8) });
+    assert.deepEqual(found, ITEMS);
+    assert.ok(await isClosedSoon(source));
+  }
+});
+
+test('a transform stream that is read no further closes its source', async () => {
+  const source = new Source(REPLAY, REPLAY, REPLAY);
+  for await (const item of webStream(source).pipeThrough(decode())) {
+    assert.equal(item.type, 'Start');
+    break;
+  }
+  assert.ok(await isClosedSoon(source));
+});
+
 test('a transform stream with a wrong chunk', async () => {
   const { readable, writable } = decode(8);
   const writer = writable.getWriter();
@@ -381,6 +448,7 @@ test('a message that is longer than the limit ends the stream', async () => {
     length: 2 ** 32 - 1,
     limit,
     offset: INPUT.length,
+    trailing: endless,
     message:
       `a message of type SetStateCommand (0x0403) at offset ${INPUT.length} has 4294967295 bytes, ` +
       `more than the limit of ${limit}`,
@@ -391,12 +459,16 @@ test('a message that is longer than the limit ends the stream', async () => {
         found.push(item);
       }
     }, error);
-    assert.deepEqual([stream.rest, stream.trailing], [0, hex('')]);
+    assert.deepEqual([stream.rest, stream.trailing], [endless.length, endless]);
   }
   assert.deepEqual(found, ITEMS.slice(0, 1));
   assert.throws(() => stream.feed(INPUT), error);
   assert.throws(() => stream.finish(), error);
-  await assert.rejects(collect(items([INPUT], 8, { maxMessageSize: limit - 1 })), TooLong);
+  await assert.rejects(collect(items([INPUT], 8, { maxMessageSize: limit - 1 })), (ended) => {
+    assert.ok(ended instanceof TooLong);
+    assert.deepEqual(ended.trailing, INPUT);
+    return true;
+  });
   const open = new Stream();
   open.feed(endless);
   assert.deepEqual([...open], []);

@@ -207,7 +207,12 @@ export async function streams(): Promise<void> {
   for await (const item of items([bytes], LAST_VERSION)) {
     described(item);
   }
-  const transform: TransformStream<Uint8Array, Item> = decode(8);
+  for await (const item of items([bytes], LAST_VERSION, { strict: false, maxMessageSize: 8 })) {
+    described(item);
+  }
+  // @ts-expect-error a stream that is fed has no end by itself
+  new Stream(8, { strict: false });
+  const transform: TransformStream<Uint8Array, Item> = decode(8, { strict: true });
   await transform.readable.getReader().read();
 }
 
@@ -316,7 +321,8 @@ export function caught(error: unknown): string {
   }
   if (error instanceof MessageTooLong) {
     const code: 'JOURNAL_TOO_LONG' = error.code;
-    return code + (error.typeCode + error.length + error.limit + error.offset).toFixed();
+    const trailing: Same<MessageTooLong['trailing'], Uint8Array> = true;
+    return code + (error.typeCode + error.length + error.limit + error.offset).toFixed() + trailing;
   }
   if (error instanceof Unknown || error instanceof JournalError) {
     return `${error.argument ?? ''} ${String(error.value)} ${error.message}`;
