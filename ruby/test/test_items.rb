@@ -90,6 +90,12 @@ class TestItems < Minitest::Test
       assert_equal item.word, item.dup.word
     end
     assert_equal 1, Pendratsoa::Message.new(8, CODES[:input], "", word: 1).word
+    assert_equal "\xff".b * 8, Pendratsoa::UnknownCode.new(8, 8, (1 << 64) - 1).bytes
+    { -1 => RangeError, 1 << 64 => RangeError, 1.5 => TypeError, "1" => TypeError }.each do |word, error|
+      items = Pendratsoa::Message.new(8, CODES[:input], "", word: word), Pendratsoa::UnknownCode.new(8, 8, word),
+              Pendratsoa::Skipped.new(9, 8, word, "")
+      items.each { |item| assert_raises(error, item.inspect) { item.bytes } }
+    end
     assert_nil Pendratsoa::Message.new(8, CODES[:input], "", offset: 1).word
   end
 

@@ -8,6 +8,9 @@ module Pendratsoa
     # a copy that is not frozen could have a header that is not that of its payload
     include FrozenStruct
 
+    WORDS = (0...(1 << 64))
+    private_constant :WORDS
+
     # Where it begins in its stream, in bytes; nil if it came in none. It is not a member, and `==` does not compare it.
     attr_reader :offset
 
@@ -40,13 +43,23 @@ module Pendratsoa
     # The item as received, byte for byte, header and payload, as a binary String: what a proxy passes on if it does not
     # change it.
     def bytes
-      [word].pack("Q>") << payload
+      bytes_of(word) << payload
     end
 
     # Writes the item as received to an IO or the like, and returns the item.
     def write_to(output)
       output.write(bytes)
       self
+    end
+
+    private
+
+    # The eight bytes of a word. `pack` would cut what is not a number of 64 bits.
+    def bytes_of(word)
+      raise TypeError, "bytes: word must be an Integer, not #{word.class}" unless word.is_a?(Integer)
+      raise RangeError, "bytes: word #{Shown.value(word)} is not from 0 to 2^64 - 1" unless WORDS.cover?(word)
+
+      [word].pack("Q>")
     end
   end
 
@@ -227,7 +240,7 @@ module Pendratsoa
       came = word
       return Pendratsoa.header(version, code, payload.bytesize) << payload unless came
 
-      [came].pack("Q>") << (@received || payload)
+      bytes_of(came) << (@received || payload)
     end
 
     # Its id and its result, if it is a notification.
@@ -307,7 +320,7 @@ module Pendratsoa
     end
 
     def bytes
-      [word].pack("Q>")
+      bytes_of(word)
     end
 
     def to_s

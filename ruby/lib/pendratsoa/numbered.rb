@@ -7,6 +7,9 @@ module Pendratsoa
     HEADER = 8
     HEAD = 4
 
+    # The bits of a word that are the length of the payload as received.
+    LENGTH = 0xffff_ffff
+
     # The numbering that a call is given, or nil; nothing else may be one.
     def self.checked(call, numbering)
       return numbering if numbering.nil? || numbering.is_a?(Numbering)
@@ -39,10 +42,9 @@ module Pendratsoa
                   word: item.word, offset: item.offset, received: item.payload)
     end
 
-    # How many bytes longer an item was as received, since a numbering has read its payload.
+    # How many bytes longer an item was as received, by its header: a numbering may have read the payload of a message.
     def self.longer_by(item)
-      received = item.instance_variable_get(:@received)
-      received && item.word ? received.bytesize - item.payload.bytesize : 0
+      item.is_a?(Message) && item.word ? (item.word & LENGTH) - item.payload.bytesize : 0
     end
 
     # A message with another payload: its header is the same but the length.
