@@ -437,6 +437,34 @@ func TestKindsOfMessages(t *testing.T) {
 	}
 }
 
+func TestStreamThatIsStillWritten(t *testing.T) {
+	stream := unhex(t, input+input)
+	var file bytes.Buffer
+	decoder := NewDecoder(&file, 8)
+	decoder.SetStrict(false)
+	var items []Item
+	for at := range stream {
+		file.WriteByte(stream[at])
+		found, err := all(decoder)
+		if err != io.EOF || decoder.Rest() != (at+1)%(len(stream)/2) {
+			t.Fatalf("after %d bytes: %v, with %d bytes left", at+1, err, decoder.Rest())
+		}
+		items = append(items, found...)
+	}
+	if len(items) != 2 {
+		t.Errorf("%d items", len(items))
+	}
+	file.WriteByte(stream[0])
+	decoder.All()(func(item Item, err error) bool {
+		t.Errorf("%v, %v", item, err)
+		return true
+	})
+	decoder.SetStrict(true)
+	if _, err := decoder.Next(); !errors.Is(err, io.ErrUnexpectedEOF) || decoder.Rest() != 1 {
+		t.Errorf("%v, with %d bytes left", err, decoder.Rest())
+	}
+}
+
 func TestMessageTooLong(t *testing.T) {
 	stream := unhex(t, input+"00000000ffffffff"+"010203")
 	whole := len(unhex(t, input))
