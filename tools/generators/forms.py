@@ -74,8 +74,9 @@ PACKAGE_TYPES = set(
     "NewMessageOf NewNumbering NewReplay NoId NoResult NoRoom NotCanonical Notification NotificationId "
     "NotificationResult Numbered Numbering NumberingError NumberingOptions NumberingReason Object OfMessage "
     "OfPayload OpenEnum Optional OutOfMemory Pending Process ReadNotification Reader Replay ReplayOptions "
-    "ResultKind Row Schema SchemaNamed Shown Skipped Stream StreamOptions Struct Symbol Table ToJSON TooLong "
-    "Trapped Tuple TypeCode TypeError TypeName Union Unknown UnknownCode Verdict VerdictKind Writer".split()
+    "ResultKind Row Schema SchemaNamed Shown Skipped SourceOptions Stream StreamOptions Struct Symbol Table "
+    "ToJSON TooLong Trapped Tuple TypeCode TypeError TypeName Union Unknown UnknownCode Verdict VerdictKind "
+    "Writer".split()
 )
 
 # What functions of generated code call their own values, so that a member of a oneof is bound by another name there.
