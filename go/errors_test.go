@@ -43,6 +43,18 @@ func TestErrorsAreThoseOfTheHeader(t *testing.T) {
 	}
 }
 
+func TestControlsOfANameAreEscaped(t *testing.T) {
+	for letter := rune(0); letter < 0x2100; letter++ {
+		shown := string(letter)
+		if letter < 0x20 || letter >= 0x7f && letter < 0xa0 || letter >= 0x2028 && letter < 0x202f ||
+			letter >= 0x2066 && letter < 0x206a {
+			shown = fmt.Sprintf(`\u%04x`, letter)
+		}
+		_, err := TypeCode(string(letter))
+		wantError(t, err, ErrUnknown, `pendratsoa: TypeCode: unknown type "`+shown+`"`)
+	}
+}
+
 func TestErrorOfLaterLibrary(t *testing.T) {
 	for _, number := range []int64{-9, -12, -1 << 63} {
 		err := errorOf(number)

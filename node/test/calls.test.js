@@ -385,6 +385,17 @@ test('a malformed payload is named', () => {
   }
 });
 
+test('controls of a name are escaped', () => {
+  const isControl = (code) =>
+    code <= 0x1f || (code >= 0x7f && code <= 0x9f) || (code >= 0x2028 && code <= 0x202e) || isTurned(code);
+  const isTurned = (code) => (code >= 0x2066 && code <= 0x2069) || (code >= 0xd800 && code <= 0xdfff);
+  for (const code of [...Array(0x2100).keys(), 0xd800, 0xdfff, 0xe000, 0x1f600]) {
+    const name = String.fromCodePoint(code);
+    const shown = isControl(code) ? `\\u${code.toString(16).padStart(4, '0')}` : name;
+    assert.throws(() => pendratsoa.typeCode(name), { message: `typeCode: unknown type "${shown}"` });
+  }
+});
+
 test('what does not exist is named', () => {
   const none = hex('');
   for (const [call, argument, value] of [

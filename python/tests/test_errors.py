@@ -262,6 +262,14 @@ class TestErrors(unittest.TestCase):
             self.assertRegex(str(raised.exception), text)
             self.assertNotIn("secret", repr(raised.exception))
 
+    def test_controls_of_a_name_are_escaped(self):
+        controls = {*range(0x20), *range(0x7F, 0xA0), *range(0x2028, 0x202F), *range(0x2066, 0x206A)}
+        for code in (*range(0x2100), 0xD800, 0xDFFF, 0xE000, 0x1F600):
+            shown = f"\\u{code:04x}" if code in controls or 0xD800 <= code < 0xE000 else chr(code)
+            with self.assertRaises(Unknown) as raised:
+                pendratsoa.type_code(chr(code))
+            self.assertEqual(str(raised.exception), f'unknown type "{shown}"')
+
     def test_a_number_that_python_does_not_write(self):
         for number in (1 << 100_000, -1 << 100_000):
             with self.assertRaises(Unknown) as raised:

@@ -99,6 +99,15 @@ class TestNames < Minitest::Test
     }.each { |text, call| assert_error(Pendratsoa::Unknown, text, &call) }
   end
 
+  def test_controls_of_a_name_are_escaped
+    controls = [*0x00..0x1f, *0x7f..0x9f, *0x2028..0x202e, *0x2066..0x2069]
+    [*0x0000..0x20ff, 0xe000, 0x1f600].each do |code|
+      name = [code].pack("U")
+      shown = controls.include?(code) ? format("\\u%04x", code) : name
+      assert_error(Pendratsoa::Unknown, "type_code: unknown type \"#{shown}\"") { Pendratsoa.type_code(name) }
+    end
+  end
+
   def test_names_that_are_none
     ["", "CustomEntry(64513)", "Sleep\0Command", "\xff", "x" * 1_000_000].each do |name|
       error = assert_raises(Pendratsoa::Unknown) { Pendratsoa.type_code(name) }

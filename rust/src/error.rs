@@ -560,6 +560,21 @@ mod tests {
     }
 
     #[test]
+    fn controls_of_a_name_are_escaped() {
+        for letter in '\0'..'\u{2100}' {
+            let shown = match letter {
+                '\0'..='\u{1f}' | '\u{7f}'..='\u{9f}' => format!("\\u{:04x}", u32::from(letter)),
+                '\u{2028}'..='\u{202e}' | '\u{2066}'..='\u{2069}' => {
+                    format!("\\u{:04x}", u32::from(letter))
+                }
+                letter => letter.to_string(),
+            };
+            let error = Error::Unknown(Argument::Name(letter.to_string()));
+            assert_eq!(error.to_string(), format!("unknown type \"{shown}\""));
+        }
+    }
+
+    #[test]
     fn each_refusal_is_an_error() {
         use Refusal::*;
         let (code, payload, second) =
