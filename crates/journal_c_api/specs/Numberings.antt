@@ -48,7 +48,7 @@ AreRenamesOf text renames = said_names renames ≡ map rename_of (lines text)
 
 -- Entries are all those of the numbering of what is read of a set, with the renames of a text, in their order. There is
 -- at least one.
-abbrev pub IsNumberingOf : Direction → List ℕ → List ℕ → List Renumbering → Type 0
+unfoldable pub IsNumberingOf : Direction → List ℕ → List ℕ → List Renumbering → Type 0
 IsNumberingOf direction set text entries =
     (found : DescriptorSet) × IsSetOf set found × (renames : List Rename) × AreRenamesOf text renames
     × (numbering_entries found renames direction ≡ Ok entries) × (1 ≤ length entries)
@@ -147,7 +147,7 @@ ReturnsLines reading stream (Err OutOfMemory) version = Unit {0}
 ReturnsLines reading stream (Err error) version = ⊥
 
 -- Payloads are read by the messages of a set with the renames of a text, at the set's numbers and by its names.
-abbrev pub IsReadingOf : List ℕ → List ℕ → AnyReading → Type 0
+unfoldable pub IsReadingOf : List ℕ → List ℕ → AnyReading → Type 0
 IsReadingOf set text reading =
     (found : DescriptorSet) × IsSetOf set found × (renames : List Rename) × AreRenamesOf text renames
     × (schemas : List (Option ℕ)) × (schemas_in found (named_of found renames) ≡ Ok schemas)

@@ -274,6 +274,7 @@ struct Messages {
 }
 
 /// The messages of a set, or why there are none.
+#[tactic(auto, using(crate::proofs::SetsRead::reading_found))]
 fn messages_of(alloc: Global, set: &[u8], renames: &[u8]) -> Result<Messages, Rejection>
     ensures set { IfOk result (λ _. IsDescriptorSet set.now) }
     ensures reading { IfOk result (λ messages. IsReadingOf set.now renames.now (reading_by
@@ -348,6 +349,7 @@ fn dump_by<M: MessageTable>(
 }
 
 /// The numbering of a set.
+#[tactic(auto, using(crate::proofs::SetsRead::numbering_found))]
 fn numbering(
     alloc: Global,
     set: &[u8],
@@ -409,9 +411,16 @@ fn descriptors(alloc: Global, set: &[u8]) -> Result<DescriptorSet, Rejection>
 fn lines_of<'a>(alloc: Global, renames: &'a [u8]) -> Result<Vec<Rename<'a>>, Rejection>
     ensures { IfOk result (λ said. AreRenamesOf renames.now said.items) }
 {
-    let Ok(text) = str::from_utf8(renames) else {
-        return Err(Rejection::Rename(String::from_str(alloc, "the renames are not UTF-8")?));
-    };
+    match str::from_utf8(renames) {
+        Ok(text) => renames_in(alloc, text),
+        Err(_) => Err(Rejection::Rename(String::from_str(alloc, "the renames are not UTF-8")?)),
+    }
+}
+
+/// The renames of the lines of a text.
+fn renames_in<'a>(alloc: Global, text: &'a str) -> Result<Vec<Rename<'a>>, Rejection>
+    ensures { IfOk result (λ said. AreRenamesOf text.now said.items) }
+{
     let mut said = Vec::new(alloc);
     for line in text.lines() {
         let rename = rename_in(alloc, line)?;
