@@ -48,7 +48,7 @@ type Replay struct {
 type Ignored struct {
 	// Payloads is whether the content of user data is ignored, but not that of a signal.
 	Payloads bool
-	// IDs is whether completion ids are, which shift behind an inserted command.
+	// IDs is whether completion ids are, which shift after an inserted command.
 	IDs bool
 }
 

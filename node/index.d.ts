@@ -607,7 +607,7 @@ export interface CompareOptions {
 /** How a replay is checked. Any other name is a `TypeError`. */
 export interface ReplayOptions extends CompareOptions {
   /**
-   * Whether completion ids are left out of the comparison, which shift behind an inserted command; by default they are
+   * Whether completion ids are left out of the comparison, which shift after an inserted command; by default they are
    * not.
    */
   readonly ignoreIds?: boolean | undefined;

@@ -127,7 +127,7 @@ export const REPLAY_OPTIONS = [
   undefined,
   /** The content of user data is not compared, but that of a signal is. */
   'ignorePayloads',
-  /** Completion ids are not compared, which shift behind an inserted command. */
+  /** Completion ids are not compared, which shift after an inserted command. */
   'ignoreIds',
 ];
 

@@ -104,7 +104,7 @@ fn write_names(f: &mut fmt::Formatter<'_>, fields: &[ChangedField]) -> fmt::Resu
 pub struct Ignored {
     /// Whether the content of user data is ignored, but not that of a signal.
     pub payloads: bool,
-    /// Whether completion ids are, which shift behind an inserted command.
+    /// Whether completion ids are, which shift after an inserted command.
     pub ids: bool,
 }
 

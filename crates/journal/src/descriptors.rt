@@ -380,8 +380,8 @@ fn made_of<T: Drop>(
     set: &DescriptorSet,
     made: Result<T, SchemaError>,
 ) -> Result<T, ExitCode>
-    ensures same { IfOk result (λ value. made.entry ≡ Ok value) }
-    ensures no_fields { IfErr result (λ status. made.entry ≡ Err NoFields → exit_status status ≡ 2) }
+    ensures same { IfOk result (λ value. made ≡ Ok value) }
+    ensures no_fields { IfErr result (λ status. made ≡ Err NoFields → exit_status status ≡ 2) }
 {
     let path = file.path;
     match made {

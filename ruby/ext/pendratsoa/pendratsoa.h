@@ -743,7 +743,7 @@ int64_t journal_verdict(uint32_t version, const uint8_t *recorded, size_t record
 
 /* The options of a replay. Any of them may be set. */
 #define JOURNAL_REPLAY_IGNORE_PAYLOADS 1 /* the content of user data is not compared, but that of a signal is */
-#define JOURNAL_REPLAY_IGNORE_IDS 2      /* completion ids are not compared, which shift behind an inserted command */
+#define JOURNAL_REPLAY_IGNORE_IDS 2      /* completion ids are not compared, which shift after an inserted command */
 
 /*
  * How far a replay has followed its recording. One whose other numbers are 0 is before its first item, so that `struct

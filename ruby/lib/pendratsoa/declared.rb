@@ -84,7 +84,7 @@ module Pendratsoa
   # The options of a replay. Any of them may be set.
   #
   # - `:ignore_payloads`: the content of user data is not compared, but that of a signal is.
-  # - `:ignore_ids`: completion ids are not compared, which shift behind an inserted command.
+  # - `:ignore_ids`: completion ids are not compared, which shift after an inserted command.
   REPLAY_OPTIONS = [nil, *%i[ignore_payloads ignore_ids]].freeze
 
   # The directions of a numbering.
