@@ -34,15 +34,15 @@ abbrev pub HasSetFor : SchemaArguments → File → Bool → Type 0
 HasSetFor schema file has-set = (path : Option (List ℕ)) × IsSetFor schema file path × (is_some path ≡ has-set)
 
 -- They are the entries of the numbering, in a direction, of the set that these bytes are, with these renames.
-abbrev pub IsNumberingIn : List ℕ → List Rename → Direction → List Renumbering → Type 0
+unfoldable pub IsNumberingIn : List ℕ → List Rename → Direction → List Renumbering → Type 0
 IsNumberingIn bytes renames direction entries =
     (set : DescriptorSet) × IsSetOf bytes set × (numbering_entries set renames direction ≡ Ok entries)
 
 -- They are those of some set with these renames. No contract can say what a file has.
-abbrev pub IsNumberingBy : List Rename → Direction → List Renumbering → Type 0
+unfoldable pub IsNumberingBy : List Rename → Direction → List Renumbering → Type 0
 IsNumberingBy renames direction entries = (bytes : List ℕ) × IsNumberingIn bytes renames direction entries
 
 -- They are the messages for the protocol's schemas of the set that these bytes are, with these renames.
-abbrev pub IsTableIn : List ℕ → List Rename → List (Option ℕ) → Type 0
+unfoldable pub IsTableIn : List ℕ → List Rename → List (Option ℕ) → Type 0
 IsTableIn bytes renames schemas =
     (set : DescriptorSet) × IsSetOf bytes set × (schemas_in set (named_of set renames) ≡ Ok schemas)

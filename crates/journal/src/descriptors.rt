@@ -234,6 +234,7 @@ pub fn read_messages(
 }
 
 /// The messages of the protocol in the set of a file. If there is a fault, reports it, and the error is the status.
+#[tactic(auto, using(crate::proofs::SetsMade::table_made))]
 fn messages_in(call: &Call<'_>, file: &SetFile<'_>) -> Result<OtherMessages, ExitCode>
     ensures { IfOk result
         (λ messages. IsTableIn file.now.bytes.items file.now.renames.now messages.schemas.items) }
@@ -246,6 +247,7 @@ fn messages_in(call: &Call<'_>, file: &SetFile<'_>) -> Result<OtherMessages, Exi
 
 /// Reads the set of a file, and makes the table by which payloads are written again from its numbers to the protocol's,
 /// or back. If there is a fault, reports it, and the error is the status.
+#[tactic(auto, using(crate::proofs::SetsMade::numbering_of_a_file))]
 pub fn read_numbering(
     call: &Call<'_>,
     path: &str,
@@ -260,6 +262,7 @@ pub fn read_numbering(
 }
 
 /// That table of the set of a file. If there is a fault, reports it, and the error is the status.
+#[tactic(auto, using(crate::proofs::SetsMade::numbering_made))]
 fn numbering_in(
     call: &Call<'_>,
     file: &SetFile<'_>,
@@ -275,6 +278,7 @@ fn numbering_in(
 }
 
 /// Reads the set of a file, and what it says of streams. If there is a fault, reports it, and the error is the status.
+#[tactic(auto, using(crate::proofs::SetsMade::numbering_of_a_file))]
 pub fn read_description(
     call: &Call<'_>,
     path: &str,
@@ -288,6 +292,7 @@ pub fn read_description(
 }
 
 /// What the set of a file says of streams. If there is a fault, reports it, and the error is the status.
+#[tactic(auto, using(crate::proofs::SetsMade::described_numbering, crate::proofs::SetsMade::described_table))]
 fn description_in(call: &Call<'_>, file: &SetFile<'_>) -> Result<Description, ExitCode>
     ensures numbering { IfOk result (λ description.
         IsNumberingIn file.now.bytes.items file.now.renames.now Reading description.numbering.items) }
