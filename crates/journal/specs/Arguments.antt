@@ -1,5 +1,5 @@
 -- What the arguments of subcommands say, by what is found of them.
-use Rattle.std.specs.Prelude.{◌≡◌, ◌≢◌, ℕ, List, [], Bool, true, false, Option, Some, None, codes}
+use Rattle.std.specs.Prelude.{◌≡◌, ◌≢◌, ℕ, List, [], Bool, true, false, Some, None, codes}
 use Rattle.std.specs.Prelude.{Ok, length, map, not, option_map, unwrap_or}
 use Rattle.std.specs.StrCase.Lower.{str_to_lowercase}
 use Rattle.clap.specs.Matches.{first_value, matched_of, one_text, raw_values}

@@ -1,5 +1,5 @@
 -- What is found of the files that a call reads.
-use Rattle.std.specs.Prelude.{◌≡◌, ℕ, List, [], ◌∷◌, codes, map, option_map, unwrap_or, Some, false}
+use Rattle.std.specs.Prelude.{◌≡◌, ℕ, List, [], ◌∷◌, codes, map, option_map, unwrap_or, false}
 use Rattle.clap.specs.Matches.{first_value, matched_of, raw_values}
 use Rattle.clap.specs.declared.parser.matches.Found.{Found}
 use Rattle.command_line.specs.Input.{IsEncodingOf}
