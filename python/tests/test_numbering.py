@@ -160,8 +160,9 @@ class TestSets(unittest.TestCase):
             self.assertEqual(theirs, b"\x1a\x01k\x48\x07")
             self.assertEqual(numbering.read_payload("GetLazyStateCommandMessage", theirs), payload)
         for renames in (None, {}):
-            numbering = Numbering.load(fetch, renames=renames)
-            self.assertEqual(numbering.write_payload("GetLazyStateCommandMessage", payload), b"")
+            with self.assertRaises(NumberingError) as error:
+                Numbering.load(fetch, renames=renames)
+            self.assertEqual(error.exception.text, "no field of the protocol's messages")
 
     def test_renames_that_are_none(self):
         for renames in (

@@ -169,7 +169,7 @@ class TestReplay(unittest.TestCase):
                 Replay(version, b"")
         for call in (lambda: Replay("8", b""), lambda: Replay(8, "recorded"), lambda: Replay(8, b"").check(b"")):
             self.assertRaises(TypeError, call)
-        with self.assertRaisesRegex(Unknown, "^code 65536 "):
+        with self.assertRaisesRegex(Unknown, "^unknown code 0x10000, "):
             Replay(8, b"").check(Message(8, 1 << 16, b""))
         replay = Replay(7, b"")
         self.assertEqual((replay.version, repr(replay)), (7, "<Replay of version 7, 0 commands the same>"))
@@ -196,7 +196,7 @@ class TestReplay(unittest.TestCase):
             with self.assertRaisesRegex(JournalError, "^the library returned the kind of verdict 7, "):
                 replay.finish()
         with replaced("journal_replay_check", returning(-99)):
-            with self.assertRaisesRegex(JournalError, "^the library returned -99"):
+            with self.assertRaisesRegex(JournalError, "^the library returned the error -99, "):
                 replay.check(items_of(8, INPUT)[0])
 
     def test_memory_does_not_grow(self):

@@ -200,7 +200,7 @@ class TestPayloads < Minitest::Test
       -> { Pendratsoa::Message.from_json(:SetStateCommand, { "key" => "a secret" }) }
     ].each do |call|
       error = assert_raises(Pendratsoa::Malformed, Pendratsoa::NoId, Pendratsoa::JsonError, &call)
-      assert_match(/: (first |second )?(payload|json) of /, error.message)
+      assert_match(/: (first |second )?(payload|JSON) of /, error.message)
       refute_includes error.inspect, "secret"
     end
   end

@@ -127,7 +127,8 @@ class TestNumbering < Minitest::Test
       assert_equal "\x1a\x01k\x48\x07".b, theirs
       assert_equal payload, numbering.read_payload("GetLazyStateCommandMessage", theirs)
     end
-    assert_equal "", Pendratsoa::Numbering.new(fetch).write_payload("GetLazyStateCommandMessage", payload)
+    error = assert_raises(Pendratsoa::NumberingError) { Pendratsoa::Numbering.new(fetch) }
+    assert_equal "no field of the protocol's messages", error.text
   end
 
   def test_renames_that_are_none

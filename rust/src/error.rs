@@ -487,30 +487,6 @@ mod tests {
                 "protocol version 7 has no SuspensionMessageV6",
             ),
             (
-                Error::Unknown(Argument::Version("4".to_owned())),
-                "unknown protocol version 4 (5 to 9)",
-            ),
-            (
-                Error::Unknown(Argument::Code(0x404)),
-                "unknown code 0x0404, or not of the kind that the call is for",
-            ),
-            (
-                Error::Unknown(Argument::Name("SuspensionMessageV6".to_owned())),
-                "unknown type \"SuspensionMessageV6\"; did you mean \"Suspension\"?",
-            ),
-            (
-                Error::Unknown(Argument::Name("a\u{1b}\n\u{7f}\u{85}\u{202e}".to_owned())),
-                r#"unknown type "a\u001b\u000a\u007f\u0085\u202e""#,
-            ),
-            (
-                Error::Unknown(Argument::Name("\u{2067}".repeat(65))),
-                &format!("unknown type \"{}\"..", r"\u2067".repeat(64)),
-            ),
-            (
-                Error::Unknown(Argument::Version("8\r".to_owned())),
-                r#"unknown protocol version "8\u000d" (5 to 9)"#,
-            ),
-            (
                 Error::TooLong(Argument::Json(3)),
                 "payload is too long: more than 4,294,967,295 bytes",
             ),
@@ -549,6 +525,39 @@ mod tests {
             (
                 Error::unexpected("the error", -12),
                 "the library returned the error -12, which this package does not know",
+            ),
+        ];
+        for (error, text) in errors {
+            assert_eq!(error.to_string(), text);
+        }
+    }
+
+    #[test]
+    fn what_is_unknown_is_named() {
+        let errors = [
+            (
+                Error::Unknown(Argument::Version("4".to_owned())),
+                "unknown protocol version 4 (5 to 9)",
+            ),
+            (
+                Error::Unknown(Argument::Code(0x404)),
+                "unknown code 0x0404, or not of the kind that the call is for",
+            ),
+            (
+                Error::Unknown(Argument::Name("SuspensionMessageV6".to_owned())),
+                "unknown type \"SuspensionMessageV6\"; did you mean \"Suspension\"?",
+            ),
+            (
+                Error::Unknown(Argument::Name("a\u{1b}\n\u{7f}\u{85}\u{202e}".to_owned())),
+                r#"unknown type "a\u001b\u000a\u007f\u0085\u202e""#,
+            ),
+            (
+                Error::Unknown(Argument::Name("\u{2067}".repeat(65))),
+                &format!("unknown type \"{}\"..", r"\u2067".repeat(64)),
+            ),
+            (
+                Error::Unknown(Argument::Version("8\r".to_owned())),
+                r#"unknown protocol version "8\u000d" (5 to 9)"#,
             ),
         ];
         for (error, text) in errors {

@@ -77,7 +77,7 @@ fn versions_that_do_not_exist() {
         assert_eq!(text.parse::<Version>(), unknown(text));
     }
     // what is not a number is quoted
-    for (text, quoted) in [("", r#""""#), ("v8\u{1b}[0m", r#""v8\u{1b}[0m""#)] {
+    for (text, quoted) in [("", r#""""#), ("v8\u{1b}[0m", r#""v8\u001b[0m""#)] {
         let error = text.parse::<Version>().unwrap_err();
         let expected = format!("unknown protocol version {quoted} (5 to 9)");
         assert_eq!(error.to_string(), expected);
