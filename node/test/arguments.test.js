@@ -2,7 +2,10 @@
 
 import assert from 'node:assert/strict';
 import { spawnSync } from 'node:child_process';
-import test from 'node:test';
+import { mkdtempSync, rmSync, writeFileSync } from 'node:fs';
+import { tmpdir } from 'node:os';
+import { join } from 'node:path';
+import test, { after } from 'node:test';
 import { runInNewContext } from 'node:vm';
 import { MessageChannel } from 'node:worker_threads';
 
@@ -52,6 +55,14 @@ const NO_BYTES = [
 
 const NONE = hex('');
 
+/** A descriptor set with the message Value and its field. */
+const SET = hex('0a2b0a07612e70726f746f22180a0556616c7565120f0a07636f6e74656e7418012001280c620670726f746f33');
+
+const FOLDER = mkdtempSync(join(tmpdir(), 'arguments-'));
+const SET_FILE = join(FOLDER, 'set.binpb');
+writeFileSync(SET_FILE, SET);
+after(() => rmSync(FOLDER, { recursive: true }));
+
 // For each call the names of its arguments and good ones.
 const CALLS = {
   schema: { version: 8, code: 0 },
@@ -100,7 +111,7 @@ const ADDON_CALLS = {
   replayText: [0x0400, NONE, NONE, BEGUN, new Uint8Array(8)],
   replayExpected: [NONE, BEGUN, new BigUint64Array(3)],
   replayFinish: [NONE, BEGUN, new BigUint64Array(6)],
-  numbering: [0, NONE, NONE, new BigUint64Array(5)],
+  numbering: [0, SET, NONE, new BigUint64Array(5)],
   numberingText: [NONE, NONE, new BigUint64Array(1), new Uint8Array(8)],
   renumber: [0, new BigUint64Array(5), NONE, new Uint8Array(8)],
   renumberStream: [8, new BigUint64Array(5), NONE, new Uint8Array(8)],
@@ -166,8 +177,8 @@ const WITH_OPTIONS = [
   [(options) => new pendratsoa.Message(8, 0x0400, NONE).frame(8, options), ['numbering']],
   [(options) => new pendratsoa.Message(8, 0x0400, NONE).frameInto(new Uint8Array(8), 8, options), ['numbering']],
   [(options) => new pendratsoa.Message(6, 0x0001, NONE).frameInto(new Uint8Array(8), 6, options), ['numbering']],
-  [(options) => new pendratsoa.Numbering(NONE, options), ['renames']],
-  [(options) => pendratsoa.Numbering.load('/dev/null', options), ['renames']],
+  [(options) => new pendratsoa.Numbering(SET, options), ['renames']],
+  [(options) => pendratsoa.Numbering.load(SET_FILE, options), ['renames']],
   [(options) => pendratsoa.headerEq(0x0400, NONE, NONE, options), ['ignorePayloads']],
   [(options) => pendratsoa.compareJournals(8, NONE, NONE, options), ['ignorePayloads']],
   [(options) => new pendratsoa.Replay(8, NONE, options), ['ignorePayloads', 'ignoreIds']],

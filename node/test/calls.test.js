@@ -200,7 +200,7 @@ test('messages of JSON', () => {
   assert.throws(() => Message.fromJson(SUSPENSION, { waitingCompletions: [1] }, 7), {
     name: 'JsonError',
     call: 'Message.fromJson',
-    message: 'Message.fromJson: json of 26 bytes: waitingCompletions: unknown member',
+    message: 'Message.fromJson: JSON of 26 bytes: waitingCompletions: unknown member',
   });
   assert.throws(() => Message.fromJson(CUSTOM_ENTRY, '{}'), pendratsoa.Unknown);
   assert.throws(() => Message.fromJson('Sleep', '{}'), pendratsoa.Unknown);
@@ -304,7 +304,7 @@ test('a notification without id or result', () => {
     argument: 'payload',
     value: payload,
     call: 'notification',
-    message: `notification: payload of ${payload.length} bytes: the notification has no id`,
+    message: `notification: payload of ${payload.length} bytes has no id`,
   });
   assert.throws(() => pendratsoa.notification(SIGNAL_NOTIFICATION, hex('1011')), pendratsoa.NoResult);
   assert.throws(() => pendratsoa.notification(CALL_COMMAND, hex('')), unknown('code', CALL_COMMAND));
@@ -439,9 +439,9 @@ test('what does not exist is named', () => {
     [() => pendratsoa.typeName(-1), 'typeName: unknown code -1, or not of the kind that the call is for'],
     [() => new Message(4, 0, none), 'Message: unknown protocol version 4 (5 to 9)'],
     [() => Message.of('End', {}, 4), 'Message.of: unknown protocol version 4 (5 to 9)'],
-    [() => Message.of('Sleep', {}), "Message.of: unknown name 'Sleep'"],
+    [() => Message.of('Sleep', {}), 'Message.of: unknown type "Sleep"'],
     [() => Message.fromJson('End', '{}', 4), 'Message.fromJson: unknown protocol version 4 (5 to 9)'],
-    [() => Message.fromJson('Sleep', '{}'), "Message.fromJson: unknown name 'Sleep'"],
+    [() => Message.fromJson('Sleep', '{}'), 'Message.fromJson: unknown type "Sleep"'],
   ]) {
     assert.throws(call, { name: 'Unknown', message });
   }

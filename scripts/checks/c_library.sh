@@ -64,7 +64,7 @@ package_cases() {
   schemas
   # shellcheck disable=SC2086 # the words are split
   counted 'the cases of packages' $emulator "$work/test_packages" "$work/schemas" < conformance/packages.cases
-  counts_lines conformance/packages.cases 'as|message|too_long|name'
+  counts_lines conformance/packages.cases 'as|message|not_strict|text|name'
 }
 
 # numbering_cases: the cases of conformance/numberings.cases
