@@ -11,7 +11,7 @@ import random
 import re
 
 import checks
-from programs import STREAMS, Program, go_to_streams
+from programs import SET, STREAMS, Program, go_to_streams
 
 NAMES = ("recorded", "replay", "cut_short", "unknown_type")
 
@@ -63,8 +63,8 @@ SAID = (
     ("explain --input hex recorded.base64", 1, f"recorded.base64: {NO_DIGIT}"),
     ("get --input hex recorded.base64 0 value", 1, f"recorded.base64: {NO_DIGIT}"),
     ("redact --key k --input hex", 1, f"-: {NO_DIGIT}"),
-    ("renumber --schema /dev/null --input hex", 1, f"-: {NO_DIGIT}"),
-    ("show --schema /dev/null --input hex", 1, f"-: {NO_DIGIT}"),
+    ("renumber --schema set --input hex", 1, f"-: {NO_DIGIT}"),
+    ("show --schema set --input hex", 1, f"-: {NO_DIGIT}"),
     ("diff --input hex - recorded.hex", 2, f"-: {NO_DIGIT}"),
     ("diff --input hex recorded.hex -", 2, f"-: {NO_DIGIT}"),
     ("cut --input hex recorded.base64", 2, f"recorded.base64: {NO_DIGIT}"),
@@ -163,7 +163,7 @@ def main(check: checks.Check) -> None:
         stream = (STREAMS / name).read_bytes()
         made[f"{name}.hex"] = b"\\x" + stream.hex().encode() + b"\n"
         made[f"{name}.base64"] = base64.encodebytes(stream)
-    go_to_streams(check, made)
+    go_to_streams(check, {**made, "set": SET})
     whole(journal, chance)
     in_pieces(journal)
     of_files(journal)

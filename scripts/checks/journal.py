@@ -13,8 +13,7 @@ import subprocess
 
 import checks
 import crates
-
-STREAMS = checks.ROOT / "examples" / "streams"
+from programs import SET, STREAMS, go_to_streams
 
 # The arguments of each subcommand, the status and the beginning of an error after the name; the input is a replay.
 RUNS = {
@@ -185,18 +184,19 @@ RUNS = {
         (("--version",), 0, ""),
     ),
     "renumber": (
-        (("--schema", "/dev/null"), 0, ""),
-        (("--back", "--schema=/dev/null", "--protocol=9", "recorded"), 0, ""),
-        (("--schema", "/dev/null", "cut_short"), 0, ": offset 21: 8 bytes after the last whole item"),
-        (("--schema", "/dev/null", "replay.dump"), 1, ": no message in it; is it a journal of version 8?"),
-        (("--schema", "/dev/null", "--max-message=8", "recorded"), 1,
+        (("--schema", "set"), 0, ""),
+        (("--back", "--schema=set", "--protocol=9", "recorded"), 0, ""),
+        (("--schema", "set", "cut_short"), 0, ": offset 21: 8 bytes after the last whole item"),
+        (("--schema", "set", "replay.dump"), 1, ": no message in it; is it a journal of version 8?"),
+        (("--schema", "set", "--max-message=8", "recorded"), 1,
          ": InputCommand at offset 0: 9 bytes of payload, more than the limit"),
         (("recorded",), 2, ": --schema FILE names the descriptor set"),
         (("--schema", "nothing"), 2, ": nothing: No such file or directory"),
-        (("--schema", "/dev/null", "nothing"), 2, ": nothing: No such file or directory"),
+        (("--schema", "set", "nothing"), 2, ": nothing: No such file or directory"),
         (("--schema", "replay"), 2, ": replay: not a descriptor set"),
+        (("--schema", "/dev/null", "replay"), 2, ": /dev/null: no field of the protocol's messages"),
         (("--protocol", "auto"), 2, "invalid value 'auto' for '--protocol <VERSION>'"),
-        (("--schema", "/dev/null", "replay", "3"), 2, "unexpected argument '3'"),
+        (("--schema", "set", "replay", "3"), 2, "unexpected argument '3'"),
         ((b"\xff",), 2, ": an argument is not UTF-8"),
         (("--help",), 0, ""),
         (("--version",), 0, ""),
@@ -250,7 +250,7 @@ class Journal:
         self.given = (STREAMS / "replay").read_bytes()
 
     def run(self, *words: str | bytes | pathlib.Path) -> checks.Run:
-        return checks.run(words, self.given, cwd=STREAMS)
+        return checks.run(words, self.given)
 
     def both_names(self, name: str) -> None:
         """A subcommand does the same by both names, if it has two, and ends as it has to."""
@@ -385,6 +385,7 @@ class Journal:
 
 
 def main(check: checks.Check) -> None:
+    go_to_streams(check, {"set": SET})
     journal = Journal(check)
     for name in RUNS:
         journal.both_names(name)

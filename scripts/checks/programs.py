@@ -9,6 +9,9 @@ import checks
 
 STREAMS = checks.ROOT / "examples" / "streams"
 
+# The descriptor set of `message Value { bytes content = 1; }`: the least that has a field of the protocol.
+SET = bytes.fromhex("0a2b0a07612e70726f746f22180a0556616c7565120f0a07636f6e74656e7418012001280c620670726f746f33")
+
 # The words of a program, in one text where no word is empty or has a space.
 Words = typing.Union[str, tuple[typing.Union[str, bytes], ...]]
 
