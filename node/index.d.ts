@@ -368,9 +368,9 @@ export class Stream implements Iterable<Item> {
 }
 
 /**
- * Decodes chunks into items: a readable and a writable stream, for `pipeThrough`. Each item is decoded as it is read.
- * After all whole items the transformed stream fails with `Incomplete` if it ends within an item, unless the options
- * have `strict: false`.
+ * Decodes chunks into items: a readable and a writable stream, for `pipeThrough`. An error comes after all items before
+ * it. The transformed stream fails with `Incomplete` if it ends within an item, unless the options have
+ * `strict: false`.
  * @param version the protocol version, by default 8
  * @throws {Unknown} it is not a protocol version
  */

@@ -32,9 +32,6 @@ const NONE_FOUND = new Uint32Array(0);
 /** Throws if a stream has trailing bytes. */
 let atEnd;
 
-/** The next item of a stream, or undefined. */
-let nextOf;
-
 /** A stream that comes in chunks. */
 export class Stream {
   #version;
@@ -57,7 +54,6 @@ export class Stream {
 
   static {
     atEnd = (stream, call) => stream.#atEnd(call);
-    nextOf = (stream) => stream.#take();
   }
 
   constructor(version = 8, options) {
@@ -298,7 +294,7 @@ export function restOf(version, bytes) {
   return bytes.length - begin;
 }
 
-/** Decodes chunks into items, each as it is read: a stream that fails loses what is in its queue. */
+/** Decodes chunks into items. What fails loses its queue, so an error waits until all items before it are read. */
 export function decode(version = 8, options) {
   const { stream, strict } = streamOf(version, options);
   const fed = new TransformStream({
@@ -308,18 +304,38 @@ export function decode(version = 8, options) {
     },
   });
   const reader = fed.readable.getReader();
+  let failure;
+  // enqueues the items that are whole, and keeps an error after them: whether there were any
+  const enqueuedAny = (controller) => {
+    if (failure !== undefined) {
+      throw failure;
+    }
+    let count = 0;
+    try {
+      for (const item of stream) {
+        controller.enqueue(item);
+        count += 1;
+      }
+    } catch (error) {
+      failure = error;
+    }
+    if (count === 0 && failure !== undefined) {
+      throw failure;
+    }
+    return count > 0;
+  };
   const source = {
     async pull(controller) {
       try {
-        const item = await nextWithin(stream, reader);
-        if (item !== undefined) {
-          controller.enqueue(item);
-          return;
+        while (!enqueuedAny(controller)) {
+          if ((await reader.read()).done) {
+            if (strict) {
+              atEnd(stream, 'decode');
+            }
+            controller.close();
+            return;
+          }
         }
-        if (strict) {
-          atEnd(stream, 'decode');
-        }
-        controller.close();
       } catch (error) {
         // no more chunks are taken; what has failed itself fails here too
         reader.cancel(error).catch(() => {});
@@ -329,16 +345,6 @@ export function decode(version = 8, options) {
     cancel: (reason) => reader.cancel(reason),
   };
   return { readable: new ReadableStream(source, { highWaterMark: 0 }), writable: fed.writable };
-}
-
-/** The next item of a stream, which is fed with the chunks of a reader meanwhile; undefined where these end. */
-async function nextWithin(stream, reader) {
-  for (;;) {
-    const item = nextOf(stream);
-    if (item !== undefined || (await reader.read()).done) {
-      return item;
-    }
-  }
 }
 
 /** The items of the chunks of a source. */
