@@ -103,8 +103,8 @@ func (d *Decoder) SetNumbering(numbering *Numbering) {
 }
 
 // SetStrict sets whether the end of a stream within an item is an *IncompleteError, which it is without this call. If
-// not, Next returns io.EOF there after all whole items, as for a file that is still being written. Trailing has the
-// bytes of that item, and the next call continues with them.
+// not, Next returns io.EOF there after all whole items, which suits a file that is still being written. Trailing has
+// the bytes of that item, and the next call continues with them.
 func (d *Decoder) SetStrict(strict bool) {
 	d.isLenient = !strict
 }

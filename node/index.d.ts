@@ -313,7 +313,8 @@ export interface StreamOptions {
 export interface SourceOptions extends StreamOptions {
   /**
    * Whether it is an error, `Incomplete`, if the source ends within an item; by default it is. With `false` the loop
-   * ends there after all whole items, as for a file that is still being written, and leaves out the bytes of that item.
+   * ends there after all whole items, which suits a file that is still being written. The bytes of that item are left
+   * out.
    */
   strict?: boolean | undefined;
 }

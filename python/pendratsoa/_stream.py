@@ -109,7 +109,7 @@ class Stream:
     def read(self, file: Source, size: int = CHUNK, strict: bool = True) -> Iterator[Item]:
         """Feeds what a binary file or a socket has, at most `size` bytes at a time, and iterates over the items as they
         come. If the file ends within an item, that is `Incomplete` after all whole items; `trailing` has its bytes.
-        With `strict=False` the loop ends there without an error, as for a file that is still being written.
+        With `strict=False` the loop ends there without an error, which suits a file that is still being written.
 
         A file that does not block and has no bytes yet is a `BlockingIOError`; the call can be repeated.
         """

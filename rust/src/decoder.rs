@@ -177,7 +177,7 @@ impl Decoder {
     }
 
     /// The decoder whose [`Decoder::read`] has no error if its reader ends within an item: with `false` the iteration
-    /// ends there after all whole items, as for a file that is still being written. By default it is
+    /// ends there after all whole items, which suits a file that is still being written. By default it is
     /// [`Error::Incomplete`]. [`Decoder::trailing`] has the bytes of that item, and [`Decoder::finish`] the error.
     ///
     /// ```

@@ -100,8 +100,8 @@ case_of() {
   outcome "$name" $ended
 }
 
-# within SECONDS COMMAND..: ends a command after so many seconds. The command stays in the process group of the check,
-# so that a signal to the group reaches it.
+# within SECONDS COMMAND..: ends a command after this many seconds. The command stays in the check's process group, so
+# that a signal to the group reaches it.
 within() {
   timeout --foreground "$@"
 }
